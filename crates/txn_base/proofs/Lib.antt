@@ -1,0 +1,4 @@
+pub mod Logs
+pub mod Moments
+pub mod Puts
+pub mod Unique

@@ -1,0 +1,12 @@
+pub mod Bytes
+pub mod Content
+pub mod Decoded
+pub mod Disk
+pub mod Entries
+pub mod Frames
+pub mod Limits
+pub mod Names
+pub mod Outside
+pub mod Records
+pub mod Room
+pub mod Snapshots

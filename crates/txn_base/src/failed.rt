@@ -1,0 +1,7 @@
+//! The answer of a failed call of the outside.
+use thiserror::Error;
+
+/// A call of the outside failed. The object's count of faults rose.
+#[derive(Clone, Copy, Debug, PartialEq, Eq, Error)]
+#[error("a call of the outside failed")]
+pub struct Failed;

@@ -1,0 +1,52 @@
+//! The types that every crate of the transaction layer speaks of, the traits of the outside, and the byte formats.
+#![tactic(auto)]
+
+mod bytes;
+mod clock;
+mod content;
+mod core_entry;
+mod disk;
+mod entry;
+mod failed;
+mod file_id;
+mod finding;
+mod limits;
+mod link;
+mod messages;
+mod part;
+mod places;
+mod reply;
+mod request;
+mod sink;
+mod snapshot;
+mod source;
+mod steps;
+mod text;
+mod texts;
+mod txn;
+mod usage;
+
+pub use bytes::Bytes;
+pub use clock::Clock;
+pub use content::{ContentCarrier, ReadsContent};
+pub use core_entry::CoreEntry;
+pub use disk::Disk;
+pub use entry::{AckEntry, CoordEntry, TopicEntry};
+pub use failed::Failed;
+pub use file_id::FileId;
+pub use finding::{Finding, Law};
+pub use limits::Limits;
+pub use link::Link;
+pub use messages::{Message, Messages};
+pub use part::{MendError, PartState, Progress, RecoverError};
+pub use places::Places;
+pub use reply::{Driven, Outcome, Refusal, Reply, Stuck, What, Why};
+pub use request::{Ack, Request};
+pub use sink::{Sink, put_all};
+pub use snapshot::{Ends, Snapshot};
+pub use source::Source;
+pub use steps::Steps;
+pub use text::{Text, TextRoom};
+pub use texts::Texts;
+pub use txn::{Decision, Status, TxnId};
+pub use usage::Usage;
