@@ -1,0 +1,237 @@
+-- Each reply that tells of a fault was paid by a rise of the count of faults.
+use Rattle.std.proofs.Common.{◌≡◌, ◌⊎◌, inl, inr, ℕ, ◌+◌, ◌-◌, ◌^◌, ◌≤◌, min, arith, zero-add, cond, Bool, true, false, ◌&&◌, List, [], ◌∷◌, Some, None, refl, sym, ap, ◌∙◌, subst}
+use Rattle.std.proofs.lemmas.List.Sums.{sum_by-append}
+use Rattle.std.specs.Prelude.{Option, MatchOption, option_map, option_and_then, find}
+use Rattle.std.specs.List.{list_all}
+use Rattle.txn_base.specs.declared.limits.Limits.{Limits}
+use Rattle.txn_base.specs.declared.txn.TxnId.{TxnId}
+use Rattle.txn_base.specs.declared.txn.Decision.{Decision}
+use Rattle.txn_base.specs.declared.txn.Decision.TheVariants.{Commit, Abort}
+use Rattle.txn_base.specs.declared.entry.AckEntry.{AckEntry}
+use Rattle.txn_base.specs.declared.request.Request.{Request}
+use Rattle.txn_base.specs.declared.request.Request.TheVariants as request
+use Rattle.txn_base.specs.declared.reply.Reply.{Reply}
+use Rattle.txn_base.specs.declared.reply.Reply.TheVariants as reply
+use Rattle.txn_base.specs.declared.reply.Outcome.{Outcome}
+use Rattle.txn_base.specs.declared.reply.Why.{Why}
+use Rattle.txn_base.specs.declared.reply.Why.TheVariants as why
+use Rattle.txn_base.specs.declared.reply.Refusal.{Refusal}
+use Rattle.txn_base.specs.declared.reply.Refusal.TheVariants as no
+use Rattle.txn_base.specs.declared.reply.What.TheVariants.{Transactions, Log, Held}
+use Rattle.txn_model.specs.declared.world.World.{World}
+use Rattle.txn_model.specs.Words.{first_of, below}
+use Rattle.txn_model.specs.Coord.{parts_of}
+use Rattle.txn_model.specs.Ack.{holder_of, is_foreign}
+use Rattle.txn_model.specs.World.{log_of}
+use Rattle.txn_model.specs.Table.{TableState, settled, marked, decision_batch}
+use Rattle.txn_model.specs.Rows
+use Rattle.txn_model.specs.Rows.{Success, success_of, early_rows, late_rows, early_refusal, late_refusal, when, conflict, asks, txn_of}
+use Rattle.txn_model.specs.Drive.{StopsAt, recovery_fault, recovery_memory, marker_memory, marker_fault, StopsWithin, Drives, already, closes, close_fault, stops}
+use Rattle.txn_model.specs.Answers.{AppendFails, Fulfils, Ends, Succeeds, Answers, early, unrecovered, unread, late, granted, no_memory, no_memory_later, tick_target, tick_reply, moved}
+use Rattle.txn_model.specs.Replies.{is_fault_why, is_stopped, is_fault, count_faults, Standing, RoseAt, Kind, too_long, blank, form, AnswersFrom, Replied, Replies}
+use Rattle.txn_model.proofs.Bools.{no_true, and_l, and_both}
+
+-- a row that is none, or tells of no fault
+abbrev safe : Option Refusal → Bool
+safe None = true
+safe (Some (no.Fault part)) = false
+safe (Some _) = true
+
+safe_tells : (row : Refusal) → safe (Some row) ≡ true → is_fault (reply.No row) ≡ false
+safe_tells no.TooLong h = refl
+safe_tells no.BadLine h = refl
+safe_tells no.BadTimeout h = refl
+safe_tells no.BadPlaces h = refl
+safe_tells no.TooBig h = refl
+safe_tells no.NoMemory h = refl
+safe_tells no.NotFound h = refl
+safe_tells no.Empty h = refl
+safe_tells (no.UnknownPart name) h = refl
+safe_tells (no.WrongKind name) h = refl
+safe_tells (no.UnknownCoordinator number) h = refl
+safe_tells (no.NotOpen status) h = refl
+safe_tells (no.NotRegistered part) h = refl
+safe_tells (no.Fault part) h = absurd (no_true h)
+safe_tells (no.Recovering part at total) h = refl
+safe_tells (no.Damaged part place) h = refl
+safe_tells (no.Unread place limit) h = refl
+safe_tells (no.AlreadyAcked place) h = refl
+safe_tells (no.Conflict place holder) h = refl
+safe_tells (no.Full what count) h = refl
+
+first_safe : (rows : List (Option Refusal)) (row : Refusal) → list_all safe rows ≡ true → first_of (λ r. r) rows ≡ Some row → safe (Some row) ≡ true
+first_safe [] row h e = absurd (none_some e)
+  where
+    none_some : {row : Refusal} → None ≡ Some row → ⊥
+    none_some e = cc
+first_safe (None ∷ rows) row h e = first_safe rows row h e
+first_safe (Some r ∷ rows) row h e = ap safe (sym e) ∙ and_l (safe (Some r)) (list_all safe rows) h
+
+safe_when : (b : Bool) (row : Refusal) → safe (Some row) ≡ true → safe (when b row) ≡ true
+safe_when true row h = h
+safe_when false row h = refl
+
+safe_map : {A : Type 0} (f : A → Refusal) (o : Option A) → ((a : A) → safe (Some (f a)) ≡ true) → safe (option_map f o) ≡ true
+safe_map f None h = refl
+safe_map f (Some a) h = h a
+
+safe_conflict : (limit : ℕ) (a : List AckEntry) (r : Request) → safe (conflict limit a r) ≡ true
+safe_conflict limit a r = by_found (find (λ q. asks r q && is_foreign (txn_of r) (holder_of a q)) (below limit))
+  where
+    by_found : (o : Option ℕ) → safe (option_and_then (λ q. option_map (no.Conflict q) (holder_of a q)) o) ≡ true
+    by_found None = refl
+    by_found (Some q) = safe_map (no.Conflict q) (holder_of a q) (λ y. refl)
+
+cons_safe : (o : Option Refusal) (rows : List (Option Refusal)) → safe o ≡ true → list_all safe rows ≡ true → list_all safe (o ∷ rows) ≡ true
+cons_safe o rows h k = and_both (safe o) (list_all safe rows) h k
+
+early_safe : (limits : Limits) (w : World) (r : Request) → list_all safe (early_rows limits w r) ≡ true
+early_safe limits w r =
+    and_both _ _ (safe_when (Rows.is_stop r) no.BadLine refl)
+    (and_both _ _ (safe_map (λ name. no.UnknownPart name) (Rows.unknown_name w r) (λ a. refl))
+    (and_both _ _ (safe_map (λ name. no.WrongKind name) (Rows.wrong_kind w r) (λ a. refl))
+    (and_both _ _ (safe_map (λ number. no.UnknownCoordinator number) (Rows.foreign_coordinator r) (λ a. refl))
+    (and_both _ _ (safe_when (Rows.has_bad_timeout r) no.BadTimeout refl)
+    (and_both _ _ (safe_when (Rows.has_bad_places limits r) no.BadPlaces refl)
+    (and_both _ _ (safe_when (Rows.is_too_big limits r) no.TooBig refl) refl))))))
+
+late_safe : (limits : Limits) (t : TableState) (r : Request) → list_all safe (late_rows limits t r) ≡ true
+late_safe limits t r =
+    and_both _ _ (safe_when (Rows.is_not_found t.world r) no.NotFound refl)
+    (and_both _ _ (safe_map (λ status. no.NotOpen status) (Rows.forbidding_status t.world r) (λ a. refl))
+    (and_both _ _ (safe_map (λ part. no.NotRegistered part) (Rows.unregistered t.world r) (λ a. refl))
+    (and_both _ _ (safe_map (λ place. no.Unread place (Rows.limit_for t.world r)) (Rows.unread_place (Rows.limit_for t.world r) r) (λ a. refl))
+    (and_both _ _ (safe_map (λ place. no.AlreadyAcked place) (Rows.acked_place (Rows.ack_list t.world r) r) (λ a. refl))
+    (and_both _ _ (safe_conflict (Rows.limit_for t.world r) (Rows.ack_list t.world r) r)
+    (and_both _ _ (safe_map (λ count. no.Full Transactions count) (Rows.full_transactions limits t r) (λ a. refl))
+    (and_both _ _ (safe_map (λ count. no.Full Held count) (Rows.full_held limits t.world r) (λ a. refl))
+    (and_both _ _ (safe_map (λ count. no.Full Log count) (Rows.full_log limits t.world r) (λ a. refl))
+    (and_both _ _ (safe_when (Rows.has_nothing limits t r) no.Empty refl) refl)))))))))
+
+-- the row of a request that isn't refused tells of no fault
+success_safe : (limits : Limits) (t : TableState) (r : Request) → is_fault (success_of limits t r).reply ≡ false
+success_safe limits t (request.New timeout) = refl
+success_safe limits t (request.Add x part) = refl
+success_safe limits t (request.Publish topic who bodies) = refl
+success_safe limits t (request.Ack sub who places) = refl
+success_safe limits t (request.AckUpTo sub who place) = refl
+success_safe limits t (request.Commit x) = refl
+success_safe limits t (request.Abort x) = refl
+success_safe limits t (request.Status x) = refl
+success_safe limits t (request.Read topic first max) = refl
+success_safe limits t (request.Receive sub max) = refl
+success_safe limits t (request.Redeliver sub) = refl
+success_safe limits t request.Tick = refl
+success_safe limits t request.Stop = refl
+
+clash : {b : Bool} → b ≡ false → b ≡ true → ⊥
+clash e h = no_true (sym e ∙ h)
+
+told_clash : (one other : Reply) → one ≡ other → is_fault other ≡ false → is_fault one ≡ true → ⊥
+told_clash one other e s h = clash (ap is_fault e ∙ s) h
+
+memory_not : (reason : Why) → reason ≡ why.Memory → is_fault_why reason ≡ true → ⊥
+memory_not reason e h = clash (ap is_fault_why e) h
+
+module _ (rose : ℕ → Type 0) where
+  stop_paid : (x : TxnId) (d : Decision) (p : ℕ) (t : TableState) (reason : Why) (t' : TableState) → StopsAt rose x d p t reason t' → is_fault_why reason ≡ true → (q : ℕ) × rose q
+  stop_paid x d p t reason t' (recovery_fault h r w) f = (p, r)
+  stop_paid x d p t reason t' (recovery_memory h w) f = absurd (memory_not reason w f)
+  stop_paid x d p t reason t' (marker_memory m r n w) f = absurd (memory_not reason w f)
+  stop_paid x d p t reason t' (marker_fault mid r n z s w) f = (p, z)
+
+  stops_paid : (x : TxnId) (d : Decision) (ps : List ℕ) (p : ℕ) (t : TableState) (reason : Why) (t' : TableState) → StopsWithin rose x d ps p t reason t' → is_fault_why reason ≡ true → (q : ℕ) × rose q
+  stops_paid x d [] p t reason t' h f = absurd h
+  stops_paid x d (q ∷ qs) p t reason t' (inl h) f = stop_paid x d q t reason t' h.1 f
+  stops_paid x d (q ∷ qs) p t reason t' (inr h) f = stops_paid x d qs p (marked x d q h.0) reason t' h.2 f
+
+  drives_paid : (x : TxnId) (t : TableState) (outcome : Outcome) (t' : TableState) → Drives rose x t outcome t' → is_stopped outcome.stuck ≡ true → (q : ℕ) × rose q
+  drives_paid x t outcome t' (already d c o s) f = absurd (clash (ap (λ u. is_stopped u.stuck) o) f)
+  drives_paid x t outcome t' (closes d c k mid m o s) f = absurd (clash (ap (λ u. is_stopped u.stuck) o) f)
+  drives_paid x t outcome t' (close_fault d c k mid m z o s) f = (0, z)
+  drives_paid x t outcome t' (stops d c k p reason h o) f = stops_paid x d (parts_of (log_of t.world) x) p t reason t' h (sym (ap (λ u. is_stopped u.stuck) o) ∙ f)
+
+  row_paid : (s : Success) (t : TableState) (r : Request) (told : Reply) (t' : TableState) → is_fault s.reply ≡ false → Fulfils s t told t' ⊎ AppendFails rose s.adds t told t' → is_fault told ≡ true → (q : ℕ) × rose q
+  row_paid s t r told t' e (inl h) f = absurd (told_clash told s.reply h.0 e f)
+  row_paid s t r told t' e (inr h) f = (h.0, h.2)
+
+  tick_paid : (t : TableState) (o : Option TxnId) (told : Reply) (t' : TableState)
+      → MatchOption o ((told ≡ tick_reply t None) × (t' ≡ t))
+      (λ x. ((outcome : Outcome) × Ends rose t x Abort outcome t' × (told ≡ tick_reply t' (Some (x, outcome)))) ⊎ AppendFails rose (decision_batch t x Abort) t told t')
+      → is_fault told ≡ true → (q : ℕ) × rose q
+  tick_paid t None told t' h f = absurd (told_clash told (tick_reply t None) h.0 refl f)
+  tick_paid t (Some x) told t' (inl h) f = drives_paid x (settled (decision_batch t x Abort) t) h.0 t' h.1 (sym (ap is_fault h.2) ∙ f)
+  tick_paid t (Some x) told t' (inr h) f = (h.0, h.2)
+
+  success_paid : (limits : Limits) (t : TableState) (r : Request) (told : Reply) (t' : TableState) → Succeeds limits rose t r told t' → is_fault told ≡ true → (q : ℕ) × rose q
+  success_paid limits t (request.Commit x) told t' (inl h) f = drives_paid x (settled (decision_batch t x Commit) t) h.0 t' h.1 (sym (ap is_fault h.2) ∙ f)
+  success_paid limits t (request.Commit x) told t' (inr h) f = (h.0, h.2)
+  success_paid limits t (request.Abort x) told t' (inl h) f = drives_paid x (settled (decision_batch t x Abort) t) h.0 t' h.1 (sym (ap is_fault h.2) ∙ f)
+  success_paid limits t (request.Abort x) told t' (inr h) f = (h.0, h.2)
+  success_paid limits t request.Tick told t' h f = tick_paid t (tick_target t) told t' h f
+  success_paid limits t (request.New timeout) told t' h f = row_paid (success_of limits t (request.New timeout)) t (request.New timeout) told t' (success_safe limits t (request.New timeout)) h f
+  success_paid limits t (request.Add x part) told t' h f = row_paid (success_of limits t (request.Add x part)) t (request.Add x part) told t' (success_safe limits t (request.Add x part)) h f
+  success_paid limits t (request.Publish topic who bodies) told t' h f = row_paid (success_of limits t (request.Publish topic who bodies)) t (request.Publish topic who bodies) told t' (success_safe limits t (request.Publish topic who bodies)) h f
+  success_paid limits t (request.Ack sub who places) told t' h f = row_paid (success_of limits t (request.Ack sub who places)) t (request.Ack sub who places) told t' (success_safe limits t (request.Ack sub who places)) h f
+  success_paid limits t (request.AckUpTo sub who place) told t' h f = row_paid (success_of limits t (request.AckUpTo sub who place)) t (request.AckUpTo sub who place) told t' (success_safe limits t (request.AckUpTo sub who place)) h f
+  success_paid limits t (request.Status x) told t' h f = row_paid (success_of limits t (request.Status x)) t (request.Status x) told t' (success_safe limits t (request.Status x)) h f
+  success_paid limits t (request.Read topic first max) told t' h f = row_paid (success_of limits t (request.Read topic first max)) t (request.Read topic first max) told t' (success_safe limits t (request.Read topic first max)) h f
+  success_paid limits t (request.Receive sub max) told t' h f = row_paid (success_of limits t (request.Receive sub max)) t (request.Receive sub max) told t' (success_safe limits t (request.Receive sub max)) h f
+  success_paid limits t (request.Redeliver sub) told t' h f = row_paid (success_of limits t (request.Redeliver sub)) t (request.Redeliver sub) told t' (success_safe limits t (request.Redeliver sub)) h f
+  success_paid limits t request.Stop told t' h f = row_paid (success_of limits t request.Stop) t request.Stop told t' (success_safe limits t request.Stop) h f
+
+  -- a reply that tells of a fault comes only where the count of some part rose
+  pub answers_paid : (limits : Limits) (t : TableState) (r : Request) (told : Reply) (t' : TableState) → Answers limits rose t r told t' → is_fault told ≡ true → (q : ℕ) × rose q
+  answers_paid limits t r told t' (early row h o s) f =
+      absurd (told_clash told (reply.No row) o (safe_tells row (first_safe (early_rows limits t.world r) row (early_safe limits t.world r) h)) f)
+  answers_paid limits t r told t' (unrecovered h p g q o) f = (p, q)
+  answers_paid limits t r told t' (unread h mid w g) f = (g.0, g.2)
+  answers_paid limits t r told t' (late h w row k o) f =
+      absurd (told_clash told (reply.No row) o (safe_tells row (first_safe (late_rows limits t' r) row (late_safe limits t' r) k)) f)
+  answers_paid limits t r told t' (granted h mid w k g) f = success_paid limits mid r told t' g f
+  answers_paid limits t r told t' (no_memory o s) f = absurd (told_clash told (reply.No no.NoMemory) o refl f)
+  answers_paid limits t r told t' (no_memory_later h o w) f = absurd (told_clash told (reply.No no.NoMemory) o refl f)
+
+-- ---- Lines.
+
+-- a count that rises by so many, and stands still at its end
+abbrev pub Paid : ℕ → ℕ → ℕ → Type 0
+Paid before count after = min (before + count) (2 ^ 64 - 1) ≤ after
+
+paid_both : (top a m b n c : ℕ) → min (a + m) top ≤ b → min (b + n) top ≤ c → min (a + (m + n)) top ≤ c
+paid_both top a m b n c h k = omega (arith, h, k)
+
+paid_none : (top a b : ℕ) → a ≤ b → min (a + 0) top ≤ b
+paid_none top a b h = omega (arith, h)
+
+paid_still : (s s' : Standing) → s' ≡ s → Paid s.faults 0 s'.faults
+paid_still s s' e = subst (λ u. Paid s.faults 0 u.faults) (sym e) (paid_none (2 ^ 64 - 1) s.faults s.faults (omega arith))
+
+one_paid : (a b : ℕ) (one : Reply) (c : Bool) → is_fault one ≡ c → (c ≡ true → min (a + 1) (2 ^ 64 - 1) ≤ b) → a ≤ b → Paid a (count_faults (one ∷ [])) b
+one_paid a b one true e rises h = subst (λ n. Paid a n b) (sym (zero-add (cond (is_fault one) 1 0) ∙ ap (λ k. cond k 1 0) e)) (rises refl)
+one_paid a b one false e rises h = subst (λ n. Paid a n b) (sym (zero-add (cond (is_fault one) 1 0) ∙ ap (λ k. cond k 1 0) e)) (paid_none (2 ^ 64 - 1) a b h)
+
+from_paid : (limits : Limits) (s : Standing) (r : Request) (one : Reply) (s' : Standing) → AnswersFrom limits s r one s' → Paid s.faults (count_faults (one ∷ [])) s'.faults
+from_paid limits s r one s' (inl h) =
+    subst (λ u. Paid s.faults (count_faults (one ∷ [])) u.faults) (sym h.1)
+    (subst (λ o. Paid s.faults (count_faults (o ∷ [])) s.faults) (sym h.0) (paid_none (2 ^ 64 - 1) s.faults s.faults (omega arith)))
+from_paid limits s r one s' (inr h) =
+    one_paid s.faults s'.faults one (is_fault one) refl (λ f. (answers_paid (RoseAt s s') limits (moved r h.0 s.table) r one s'.table h.2 f).1.0) h.3.faults
+
+line_paid : (limits : Limits) (s : Standing) (kind : Kind) (told : List Reply) (s' : Standing) → Replied limits s kind told s' → Paid s.faults (count_faults told) s'.faults
+line_paid limits s too_long told s' h = subst (λ o. Paid s.faults (count_faults o) s'.faults) (sym h.0) (paid_still s s' h.1)
+line_paid limits s blank told s' h = subst (λ o. Paid s.faults (count_faults o) s'.faults) (sym h.0) (paid_still s s' h.1)
+line_paid limits s (form None) told s' h =
+    elim h.0 [
+      | inl e ↦ subst (λ o. Paid s.faults (count_faults o) s'.faults) (sym e) (paid_still s s' h.1)
+      | inr e ↦ subst (λ o. Paid s.faults (count_faults o) s'.faults) (sym e) (paid_still s s' h.1)
+    ]
+line_paid limits s (form (Some r)) told s' h = subst (λ o. Paid s.faults (count_faults o) s'.faults) (sym h.1) (from_paid limits s r h.0 s' h.2)
+
+-- the replies that tell of a fault are at most as many as the count of faults rose by
+pub replies_paid : (limits : Limits) (s : Standing) (kinds : List Kind) (told : List Reply) (s' : Standing) → Replies limits s kinds told s' → Paid s.faults (count_faults told) s'.faults
+replies_paid limits s [] told s' h = subst (λ o. Paid s.faults (count_faults o) s'.faults) (sym h.0) (paid_still s s' h.1)
+replies_paid limits s (kind ∷ kinds) told s' h =
+    subst (λ o. Paid s.faults (count_faults o) s'.faults) (sym h.5)
+    (subst (λ n. Paid s.faults n s'.faults) (sym (sum_by-append (λ o. cond (is_fault o) 1 0) h.1 h.2))
+    (paid_both (2 ^ 64 - 1) s.faults (count_faults h.1) h.0.faults (count_faults h.2) s'.faults (line_paid limits s kind h.1 h.0 h.3) (replies_paid limits h.0 kinds h.2 s' h.4)))

@@ -1,0 +1,125 @@
+-- Where nothing fails and every part is whole, the only answer beside want of memory is the plain one.
+use Rattle.std.proofs.Common.{◌≡◌, ◌⊎◌, inl, inr, ℕ, Bool, true, List, [], ◌∷◌, Some, None, sym, ap, ◌∙◌, subst}
+use Rattle.std.specs.Prelude.{Option, MatchBool, MatchOption}
+use Rattle.std.specs.Option.{option_or}
+use Rattle.txn_base.specs.declared.limits.Limits.{Limits}
+use Rattle.txn_base.specs.declared.txn.TxnId.{TxnId}
+use Rattle.txn_base.specs.declared.txn.Decision.{Decision}
+use Rattle.txn_base.specs.declared.txn.Decision.TheVariants.{Commit, Abort}
+use Rattle.txn_base.specs.declared.request.Request.{Request}
+use Rattle.txn_base.specs.declared.request.Request.TheVariants as request
+use Rattle.txn_base.specs.declared.reply.Reply.{Reply}
+use Rattle.txn_base.specs.declared.reply.Reply.TheVariants as reply
+use Rattle.txn_base.specs.declared.reply.Outcome.{Outcome}
+use Rattle.txn_base.specs.declared.reply.Why.{Why}
+use Rattle.txn_base.specs.declared.reply.Refusal.TheVariants as no
+use Rattle.txn_model.specs.Words.{nowhere}
+use Rattle.txn_model.specs.Coord.{decision_of, parts_of}
+use Rattle.txn_model.specs.World.{log_of}
+use Rattle.txn_model.specs.Table.{TableState, settled, marked, rebuilt, is_fenced, decision_batch, closing_batch}
+use Rattle.txn_model.specs.Rows.{Success, success_of, late_refusal}
+use Rattle.txn_model.specs.Drive.{Rebuilds, RebuildsAll, RefusedAt, MarksAll, StopsAt, recovery_fault, recovery_memory, marker_memory, marker_fault, StopsWithin, Drives, already, closes, close_fault, stops}
+use Rattle.txn_model.specs.Answers.{uses, AppendFails, Fulfils, Ends, Succeeds, Answers, early, unrecovered, unread, late, granted, no_memory, no_memory_later, tick_target, tick_reply}
+use Rattle.txn_model.specs.Plain.{all_marked, drive_by, drive_of, end_of, after_tick, after_success, plain_success, or_refused, plain_answer}
+use Rattle.txn_model.proofs.Bools.{no_true}
+
+-- this was told, and this stands afterwards
+abbrev pub Is : {A : Type 0} → A → TableState → A × TableState → Type 0
+Is told t' done = (told ≡ done.0) × (t' ≡ done.1)
+
+rebuilds_same : (p : ℕ) (t t' : TableState) → t.fenced ≡ nowhere → Rebuilds p t t' → t' ≡ t
+rebuilds_same p t t' e h = subst (λ f. MatchBool (f p) ((stays : Bool) × (t' ≡ rebuilt p stays t)) (t' ≡ t)) e h
+
+still : (t t' : TableState) → t' ≡ t → t.fenced ≡ nowhere → t'.fenced ≡ nowhere
+still t t' m e = ap (λ s. s.fenced) m ∙ e
+
+all_same : (ps : List ℕ) (t t' : TableState) → t.fenced ≡ nowhere → RebuildsAll ps t t' → t' ≡ t
+all_same [] t t' e h = h
+all_same (p ∷ ps) t t' e h = let m : h.0 ≡ t = rebuilds_same p t h.0 e h.1 in all_same ps h.0 t' (still t h.0 m e) h.2 ∙ m
+
+not_fenced : (p : ℕ) (t : TableState) → t.fenced ≡ nowhere → is_fenced t p ≡ true → ⊥
+not_fenced p t e h = no_true (sym (ap (λ f. f p) e) ∙ h)
+
+not_refused : (ps : List ℕ) (p : ℕ) (t t' : TableState) → t.fenced ≡ nowhere → RefusedAt ps p t t' → ⊥
+not_refused [] p t t' e h = h
+not_refused (q ∷ qs) p t t' e (inl h) = not_fenced q t e h.1.0
+not_refused (q ∷ qs) p t t' e (inr h) = not_refused qs p h.0 t' (still t h.0 (rebuilds_same q t h.0 e h.1) e) h.2
+
+marks_same : (x : TxnId) (d : Decision) (ps : List ℕ) (t t' : TableState) → t.fenced ≡ nowhere → MarksAll x d ps t t' → t' ≡ all_marked x d ps t
+marks_same x d [] t t' e h = h
+marks_same x d (p ∷ ps) t t' e h =
+    let m : h.0 ≡ t = rebuilds_same p t h.0 e h.1 in
+    marks_same x d ps (marked x d p h.0) t' (still t h.0 m e) h.2 ∙ ap (λ s. all_marked x d ps (marked x d p s)) m
+
+module _ (rose : ℕ → Type 0) (quiet : (p : ℕ) → rose p → ⊥) where
+  not_stopped : (x : TxnId) (d : Decision) (p : ℕ) (t : TableState) (reason : Why) (t' : TableState) → t.fenced ≡ nowhere → StopsAt rose x d p t reason t' → ⊥
+  not_stopped x d p t reason t' e (recovery_fault h r w) = not_fenced p t e h.0
+  not_stopped x d p t reason t' e (recovery_memory h w) = not_fenced p t e h.0
+  not_stopped x d p t reason t' e (marker_memory f r n w) = not_fenced p t e f
+  not_stopped x d p t reason t' e (marker_fault mid r n f s w) = quiet p f
+
+  not_stopped_within : (x : TxnId) (d : Decision) (ps : List ℕ) (p : ℕ) (t : TableState) (reason : Why) (t' : TableState) → t.fenced ≡ nowhere → StopsWithin rose x d ps p t reason t' → ⊥
+  not_stopped_within x d [] p t reason t' e h = h
+  not_stopped_within x d (q ∷ qs) p t reason t' e (inl h) = not_stopped x d q t reason t' e h.1
+  not_stopped_within x d (q ∷ qs) p t reason t' e (inr h) = not_stopped_within x d qs p (marked x d q h.0) reason t' (still t h.0 (rebuilds_same q t h.0 e h.1) e) h.2
+
+  drives_plain : (x : TxnId) (t : TableState) (outcome : Outcome) (t' : TableState) → t.fenced ≡ nowhere → Drives rose x t outcome t' → Is outcome t' (drive_of x t)
+  drives_plain x t outcome t' e (already d c o s) =
+      subst (λ k. Is outcome t' (drive_by x t k (decision_of (log_of t.world) x))) (sym c) (o, s)
+  drives_plain x t outcome t' e (closes d c k mid m o s) =
+      subst (λ a. Is outcome t' (drive_by x t a (decision_of (log_of t.world) x))) (sym c)
+      (subst (λ b. Is outcome t' (drive_by x t None b)) (sym k) (o, s ∙ ap (settled (closing_batch x d)) (marks_same x d (parts_of (log_of t.world) x) t mid e m)))
+  drives_plain x t outcome t' e (close_fault d c k mid m f o s) = absurd (quiet 0 f)
+  drives_plain x t outcome t' e (stops d c k p reason h o) = absurd (not_stopped_within x d (parts_of (log_of t.world) x) p t reason t' e h)
+
+  row_plain : (s : Success) (t : TableState) (r : Request) (told : Reply) (t' : TableState) → Fulfils s t told t' ⊎ AppendFails rose s.adds t told t' → Is told t' (after_success s t)
+  row_plain s t r told t' (inl h) = h
+  row_plain s t r told t' (inr h) = absurd (quiet h.0 h.2)
+
+  tick_plain : (t : TableState) (o : Option TxnId) (told : Reply) (t' : TableState) → t.fenced ≡ nowhere
+      → MatchOption o ((told ≡ tick_reply t None) × (t' ≡ t))
+      (λ x. ((outcome : Outcome) × Ends rose t x Abort outcome t' × (told ≡ tick_reply t' (Some (x, outcome)))) ⊎ AppendFails rose (decision_batch t x Abort) t told t')
+      → Is told t' (after_tick t o)
+  tick_plain t None told t' e h = h
+  tick_plain t (Some x) told t' e (inl h) =
+      let s : Is h.0 t' (end_of t x Abort) = drives_plain x (settled (decision_batch t x Abort) t) h.0 t' e h.1 in
+      (h.2 ∙ ap (λ o. tick_reply t' (Some (x, o))) s.0 ∙ ap (λ u. tick_reply u (Some (x, (end_of t x Abort).0))) s.1, s.1)
+  tick_plain t (Some x) told t' e (inr h) = absurd (quiet h.0 h.2)
+
+  success_plain : (limits : Limits) (t : TableState) (r : Request) (told : Reply) (t' : TableState) → t.fenced ≡ nowhere → Succeeds limits rose t r told t' → Is told t' (plain_success limits t r)
+  success_plain limits t (request.Commit x) told t' e (inl h) =
+      let s : Is h.0 t' (end_of t x Commit) = drives_plain x (settled (decision_batch t x Commit) t) h.0 t' e h.1 in (h.2 ∙ ap (λ o. reply.Ended Commit o) s.0, s.1)
+  success_plain limits t (request.Commit x) told t' e (inr h) = absurd (quiet h.0 h.2)
+  success_plain limits t (request.Abort x) told t' e (inl h) =
+      let s : Is h.0 t' (end_of t x Abort) = drives_plain x (settled (decision_batch t x Abort) t) h.0 t' e h.1 in (h.2 ∙ ap (λ o. reply.Ended Abort o) s.0, s.1)
+  success_plain limits t (request.Abort x) told t' e (inr h) = absurd (quiet h.0 h.2)
+  success_plain limits t request.Tick told t' e h = tick_plain t (tick_target t) told t' e h
+  success_plain limits t (request.New timeout) told t' e h = row_plain (success_of limits t (request.New timeout)) t (request.New timeout) told t' h
+  success_plain limits t (request.Add x part) told t' e h = row_plain (success_of limits t (request.Add x part)) t (request.Add x part) told t' h
+  success_plain limits t (request.Publish topic who bodies) told t' e h = row_plain (success_of limits t (request.Publish topic who bodies)) t (request.Publish topic who bodies) told t' h
+  success_plain limits t (request.Ack sub who places) told t' e h = row_plain (success_of limits t (request.Ack sub who places)) t (request.Ack sub who places) told t' h
+  success_plain limits t (request.AckUpTo sub who place) told t' e h = row_plain (success_of limits t (request.AckUpTo sub who place)) t (request.AckUpTo sub who place) told t' h
+  success_plain limits t (request.Status x) told t' e h = row_plain (success_of limits t (request.Status x)) t (request.Status x) told t' h
+  success_plain limits t (request.Read topic first max) told t' e h = row_plain (success_of limits t (request.Read topic first max)) t (request.Read topic first max) told t' h
+  success_plain limits t (request.Receive sub max) told t' e h = row_plain (success_of limits t (request.Receive sub max)) t (request.Receive sub max) told t' h
+  success_plain limits t (request.Redeliver sub) told t' e h = row_plain (success_of limits t (request.Redeliver sub)) t (request.Redeliver sub) told t' h
+  success_plain limits t request.Stop told t' e h = row_plain (success_of limits t request.Stop) t request.Stop told t' h
+
+  -- with every part whole and no fault, the answer is the plain one, or want of memory
+  pub only_plain : (limits : Limits) (t : TableState) (r : Request) (told : Reply) (t' : TableState) → t.fenced ≡ nowhere → Answers limits rose t r told t'
+      → ((told ≡ reply.No no.NoMemory) ⊎ Is told t' (plain_answer limits t r))
+  only_plain limits t r told t' e (early row h o s) =
+      inr (subst (λ k. Is told t' (or_refused t (option_or k (late_refusal limits t r)) (plain_success limits t r))) (sym h) (o, s))
+  only_plain limits t r told t' e (unrecovered h p f q o) = absurd (quiet p q)
+  only_plain limits t r told t' e (unread h mid w g) = absurd (quiet g.0 g.2)
+  only_plain limits t r told t' e (late h w row k o) =
+      let m : t' ≡ t = all_same (uses t.world r) t t' e w in
+      inr (subst (λ a. Is told t' (or_refused t (option_or a (late_refusal limits t r)) (plain_success limits t r))) (sym h)
+      (subst (λ b. Is told t' (or_refused t b (plain_success limits t r))) (sym (ap (λ s. late_refusal limits s r) (sym m) ∙ k)) (o, m)))
+  only_plain limits t r told t' e (granted h mid w k g) =
+      let m : mid ≡ t = all_same (uses t.world r) t mid e w in
+      inr (subst (λ a. Is told t' (or_refused t (option_or a (late_refusal limits t r)) (plain_success limits t r))) (sym h)
+      (subst (λ b. Is told t' (or_refused t b (plain_success limits t r))) (sym (ap (λ s. late_refusal limits s r) (sym m) ∙ k))
+      (success_plain limits t r told t' e (subst (λ s. Succeeds limits rose s r told t') m g))))
+  only_plain limits t r told t' e (no_memory o s) = inl o
+  only_plain limits t r told t' e (no_memory_later h o w) = inl o

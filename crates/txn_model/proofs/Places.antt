@@ -1,0 +1,30 @@
+-- The places of the visible messages are the visible places of the skeletons.
+use Rattle.std.proofs.Common.{◌≡◌, ℕ, suc, List, [], ◌∷◌, Some, None, refl, ap}
+use Rattle.std.specs.Prelude.{Option, map}
+use Rattle.txn_base.specs.declared.txn.Decision.{Decision}
+use Rattle.txn_base.specs.declared.txn.Decision.TheVariants.{Commit, Abort}
+use Rattle.txn_base.specs.declared.messages.Message.{Message}
+use Rattle.txn_base.specs.declared.core_entry.CoreEntry.{CoreEntry}
+use Rattle.txn_base.specs.declared.entry.TopicEntry.{TopicEntry}
+use Rattle.txn_base.specs.declared.entry.TopicEntry.TheVariants as topic
+use Rattle.txn_model.specs.Skeletons.{topic_skeletons}
+use Rattle.txn_model.specs.Topic.{marker_of, message, shown, visible_from, visible_of}
+use Rattle.txn_model.specs.VisiblePlaces.{shown_place, visible_places_from, visible_places}
+
+abbrev places_of : List Message → List ℕ
+places_of ms = map (λ m. m.place) ms
+
+shown_places : (o : Option Decision) (k : ℕ) (body : List ℕ) (rest : List Message) (places : List ℕ) → places_of rest ≡ places → places_of (shown o (message k body) rest) ≡ shown_place o k places
+shown_places (Some Commit) k body rest places h = ap (λ l. k ∷ l) h
+shown_places (Some Abort) k body rest places h = h
+shown_places None k body rest places h = refl
+
+from : (all : List CoreEntry) (k : ℕ) (es : List TopicEntry) → places_of (visible_from all k es) ≡ visible_places_from all k (topic_skeletons es)
+from all k [] = refl
+from all k (topic.Plain body ∷ es) = ap (λ l. k ∷ l) (from all (suc k) es)
+from all k (topic.Opened x body ∷ es) = shown_places (marker_of all x) k body.bytes (visible_from all (suc k) es) (visible_places_from all (suc k) (topic_skeletons es)) (from all (suc k) es)
+from all k (topic.Commit x ∷ es) = from all (suc k) es
+from all k (topic.Abort x ∷ es) = from all (suc k) es
+
+pub places_are : (es : List TopicEntry) → places_of (visible_of es) ≡ visible_places (topic_skeletons es)
+places_are es = from (topic_skeletons es) 0 es

@@ -1,0 +1,17 @@
+pub mod Words
+pub mod Skeletons
+pub mod Names
+pub mod Coord
+pub mod Deadlines
+pub mod Texts
+pub mod Topic
+pub mod VisiblePlaces
+pub mod Ack
+pub mod World
+pub mod Table
+pub mod Rows
+pub mod Drive
+pub mod Answers
+pub mod Replies
+pub mod Plain
+pub mod Opening

@@ -1,0 +1,101 @@
+-- A topic's ledger.
+use Rattle.std.specs.Prelude.{ℕ, suc, ◌+◌, min, nat_le, Bool, true, false, if◌then◌else◌, List, [], ◌∷◌, length, take, filter, Option, Some, None, is_none}
+use Rattle.txn_base.specs.declared.limits.Limits.{Limits}
+use Rattle.txn_base.specs.declared.messages.Message.{Message}
+use Rattle.txn_base.specs.declared.txn.TxnId.{TxnId}
+use Rattle.txn_base.specs.declared.txn.Decision.{Decision}
+use Rattle.txn_base.specs.declared.txn.Decision.TheVariants.{Commit, Abort}
+use Rattle.txn_base.specs.declared.core_entry.CoreEntry.{CoreEntry}
+use Rattle.txn_base.specs.declared.core_entry.CoreEntry.TheVariants as core
+use Rattle.txn_base.specs.declared.entry.TopicEntry.{TopicEntry}
+use Rattle.txn_base.specs.declared.entry.TopicEntry.TheVariants as topic
+use Rattle.txn_model.specs.Words.{first_of, IsLawfulBy}
+use Rattle.txn_model.specs.Skeletons.{same_txn, topic_skeletons}
+
+-- Of x, the end that an entry says.
+abbrev pub marks : TxnId → CoreEntry → Option Decision
+marks x (core.Marker y d) = if same_txn x y then Some d else None
+marks x _ = None
+
+-- In the list of a part, the decision of the marker of x, or none. Of two markers the first one counts.
+abbrev pub marker_of : List CoreEntry → TxnId → Option Decision
+marker_of es x = first_of (marks x) es
+
+-- After these entries of a part, other than the coordinator, this one is allowed: nothing of x after a marker of x.
+abbrev pub part_allows : List CoreEntry → CoreEntry → Bool
+part_allows before core.Plain = true
+part_allows before (core.Inside x) = is_none (marker_of before x)
+part_allows before (core.Marker x d) = is_none (marker_of before x)
+part_allows before _ = false
+
+-- In a topic's list, after a marker of x there is no message and no marker of x.
+abbrev pub TopicLawful : List TopicEntry → Type 0
+TopicLawful es = IsLawfulBy part_allows (topic_skeletons es)
+
+-- Where all are the whole list, an entry is a message of a transaction without a marker.
+abbrev pub is_undecided : List CoreEntry → CoreEntry → Bool
+is_undecided all (core.Inside x) = is_none (marker_of all x)
+is_undecided all _ = false
+
+-- From place k on, where all are the whole list, the least place of such a message, or else the end.
+abbrev pub limit_from : List CoreEntry → ℕ → List CoreEntry → ℕ
+limit_from all k [] = k
+limit_from all k (e ∷ es) = if is_undecided all e then k else limit_from all (suc k) es
+
+-- The limit of a topic's list: the least place of a message of a transaction without a marker there, or else the length.
+abbrev pub limit_of : List TopicEntry → ℕ
+limit_of es = limit_from (topic_skeletons es) 0 (topic_skeletons es)
+
+-- At place k, the message with this body.
+abbrev pub message : ℕ → List ℕ → Message
+message k body = record { place = k; body = body }
+
+-- A message by the marker of its transaction: shown where it is a commit, passed over where it is an abort; and
+-- where there is none, the limit stands here, and neither it nor the rest is shown.
+abbrev pub shown : Option Decision → Message → List Message → List Message
+shown (Some Commit) m rest = m ∷ rest
+shown (Some Abort) m rest = rest
+shown None m rest = []
+
+-- The message, where its transaction has a commit marker.
+abbrev pub shown_where : Option Decision → Message → Option Message
+shown_where (Some Commit) m = Some m
+shown_where _ m = None
+
+-- From place k on, where all are the whole list, the visible messages.
+abbrev pub visible_from : List CoreEntry → ℕ → List TopicEntry → List Message
+visible_from all k [] = []
+visible_from all k (topic.Plain body ∷ es) = message k body.bytes ∷ visible_from all (suc k) es
+visible_from all k (topic.Opened x body ∷ es) = shown (marker_of all x) (message k body.bytes) (visible_from all (suc k) es)
+visible_from all k (_ ∷ es) = visible_from all (suc k) es
+
+-- At place k, where all are the whole list, the message that an entry shows if no undecided one stands before it.
+abbrev pub shows : List CoreEntry → ℕ → TopicEntry → Option Message
+shows all k (topic.Plain body) = Some (message k body.bytes)
+shows all k (topic.Opened x body) = shown_where (marker_of all x) (message k body.bytes)
+shows all k _ = None
+
+-- The visible messages of a topic's list, in order: of the places below the limit, the plain messages and those of
+-- transactions with a commit marker.
+abbrev pub visible_of : List TopicEntry → List Message
+visible_of es = visible_from (topic_skeletons es) 0 es
+
+-- Where there is room for `bytes`, of which `spent` are spent, the longest front of these messages whose bodies fit.
+abbrev pub fitting : ℕ → ℕ → List Message → List Message
+fitting bytes spent [] = []
+fitting bytes spent (m ∷ ms) = if nat_le (spent + length m.body) bytes then m ∷ fitting bytes (spent + length m.body) ms else []
+
+-- Where there is room for `bytes`, the longest front of these messages whose bodies fit, with the first whatever its size.
+abbrev pub first_and_fitting : ℕ → List Message → List Message
+first_and_fitting bytes [] = []
+first_and_fitting bytes (m ∷ ms) = m ∷ fitting bytes (length m.body) ms
+
+-- Within the limits and max, the longest front of these messages: at most max and read_messages of them, with bodies of
+-- at most read_bytes together unless it is one message.
+abbrev pub cut_short : Limits → ℕ → List Message → List Message
+cut_short limits max ms = first_and_fitting limits.read_bytes (take (min max limits.read_messages) ms)
+
+-- Within the limits, what a read of a topic's list gives from `first` on, at most max: the visible messages at places from
+-- `first` on, cut short.
+abbrev pub read_slice : Limits → List TopicEntry → ℕ → ℕ → List Message
+read_slice limits es first max = cut_short limits max (filter (λ m. nat_le first m.place) (visible_of es))
