@@ -1,13 +1,12 @@
 -- Each reply that tells of a fault was paid by a rise of the count of faults.
-use Rattle.std.proofs.Common.{◌≡◌, ◌⊎◌, inl, inr, ℕ, ◌+◌, ◌-◌, ◌^◌, ◌≤◌, min, arith, zero-add, cond, Bool, true, false, ◌&&◌, List, [], ◌∷◌, Some, None, refl, sym, ap, ◌∙◌, subst}
+use Rattle.std.proofs.Common.{◌≡◌, ◌⊎◌, inl, inr, ℕ, ◌+◌, ◌-◌, ◌^◌, ◌≤◌, min, arith, zero-add, cond, Bool, true, false, List, [], ◌∷◌, Some, None, refl, sym, ap, ◌∙◌, subst}
 use Rattle.std.proofs.lemmas.List.Sums.{sum_by-append}
-use Rattle.std.specs.Prelude.{Option, MatchOption, option_map, option_and_then, find}
+use Rattle.std.specs.Prelude.{Option, MatchOption, option_map}
 use Rattle.std.specs.List.{list_all}
 use Rattle.txn_base.specs.declared.limits.Limits.{Limits}
 use Rattle.txn_base.specs.declared.txn.TxnId.{TxnId}
 use Rattle.txn_base.specs.declared.txn.Decision.{Decision}
 use Rattle.txn_base.specs.declared.txn.Decision.TheVariants.{Commit, Abort}
-use Rattle.txn_base.specs.declared.entry.AckEntry.{AckEntry}
 use Rattle.txn_base.specs.declared.request.Request.{Request}
 use Rattle.txn_base.specs.declared.request.Request.TheVariants as request
 use Rattle.txn_base.specs.declared.reply.Reply.{Reply}
@@ -19,13 +18,16 @@ use Rattle.txn_base.specs.declared.reply.Refusal.{Refusal}
 use Rattle.txn_base.specs.declared.reply.Refusal.TheVariants as no
 use Rattle.txn_base.specs.declared.reply.What.TheVariants.{Transactions, Log, Held}
 use Rattle.txn_model.specs.declared.world.World.{World}
-use Rattle.txn_model.specs.Words.{first_of, below}
+use Rattle.txn_model.specs.Words.{first_of, when}
 use Rattle.txn_model.specs.Coord.{parts_of}
-use Rattle.txn_model.specs.Ack.{holder_of, is_foreign}
 use Rattle.txn_model.specs.World.{log_of}
 use Rattle.txn_model.specs.Table.{TableState, settled, marked, decision_batch}
-use Rattle.txn_model.specs.Rows
-use Rattle.txn_model.specs.Rows.{Success, success_of, early_rows, late_rows, early_refusal, late_refusal, when, conflict, asks, txn_of}
+use Rattle.txn_model.specs.Requests.{limit_in}
+use Rattle.txn_model.specs.EarlyRows as early_row
+use Rattle.txn_model.specs.EarlyRows.{early_rows, early_refusal}
+use Rattle.txn_model.specs.LateRows as late_row
+use Rattle.txn_model.specs.LateRows.{late_rows, late_refusal}
+use Rattle.txn_model.specs.Successes.{Success, success_of}
 use Rattle.txn_model.specs.Drive.{StopsAt, recovery_fault, recovery_memory, marker_memory, marker_fault, StopsWithin, Drives, already, closes, close_fault, stops}
 use Rattle.txn_model.specs.Answers.{AppendFails, Fulfils, Ends, Succeeds, Answers, early, unrecovered, unread, late, granted, no_memory, no_memory_later, tick_target, tick_reply, moved}
 use Rattle.txn_model.specs.Replies.{is_fault_why, is_stopped, is_fault, count_faults, Standing, RoseAt, Kind, too_long, blank, form, AnswersFrom, Replied, Replies}
@@ -75,38 +77,31 @@ safe_map : {A : Type 0} (f : A → Refusal) (o : Option A) → ((a : A) → safe
 safe_map f None h = refl
 safe_map f (Some a) h = h a
 
-safe_conflict : (limit : ℕ) (a : List AckEntry) (r : Request) → safe (conflict limit a r) ≡ true
-safe_conflict limit a r = by_found (find (λ q. asks r q && is_foreign (txn_of r) (holder_of a q)) (below limit))
-  where
-    by_found : (o : Option ℕ) → safe (option_and_then (λ q. option_map (no.Conflict q) (holder_of a q)) o) ≡ true
-    by_found None = refl
-    by_found (Some q) = safe_map (no.Conflict q) (holder_of a q) (λ y. refl)
-
 cons_safe : (o : Option Refusal) (rows : List (Option Refusal)) → safe o ≡ true → list_all safe rows ≡ true → list_all safe (o ∷ rows) ≡ true
 cons_safe o rows h k = and_both (safe o) (list_all safe rows) h k
 
 early_safe : (limits : Limits) (w : World) (r : Request) → list_all safe (early_rows limits w r) ≡ true
 early_safe limits w r =
-    and_both _ _ (safe_when (Rows.is_stop r) no.BadLine refl)
-    (and_both _ _ (safe_map (λ name. no.UnknownPart name) (Rows.unknown_name w r) (λ a. refl))
-    (and_both _ _ (safe_map (λ name. no.WrongKind name) (Rows.wrong_kind w r) (λ a. refl))
-    (and_both _ _ (safe_map (λ number. no.UnknownCoordinator number) (Rows.foreign_coordinator r) (λ a. refl))
-    (and_both _ _ (safe_when (Rows.has_bad_timeout r) no.BadTimeout refl)
-    (and_both _ _ (safe_when (Rows.has_bad_places limits r) no.BadPlaces refl)
-    (and_both _ _ (safe_when (Rows.is_too_big limits r) no.TooBig refl) refl))))))
+    and_both _ _ (safe_when (early_row.is_stop r) no.BadLine refl)
+    (and_both _ _ (safe_map (λ name. no.UnknownPart name) (early_row.unknown_name w r) (λ a. refl))
+    (and_both _ _ (safe_map (λ name. no.WrongKind name) (early_row.wrong_kind w r) (λ a. refl))
+    (and_both _ _ (safe_map (λ number. no.UnknownCoordinator number) (early_row.foreign_coordinator r) (λ a. refl))
+    (and_both _ _ (safe_when (early_row.has_bad_timeout r) no.BadTimeout refl)
+    (and_both _ _ (safe_when (early_row.lists_bad_places limits r) no.BadPlaces refl)
+    (and_both _ _ (safe_when (early_row.is_too_big limits r) no.TooBig refl) refl))))))
 
 late_safe : (limits : Limits) (t : TableState) (r : Request) → list_all safe (late_rows limits t r) ≡ true
 late_safe limits t r =
-    and_both _ _ (safe_when (Rows.is_not_found t.world r) no.NotFound refl)
-    (and_both _ _ (safe_map (λ status. no.NotOpen status) (Rows.forbidding_status t.world r) (λ a. refl))
-    (and_both _ _ (safe_map (λ part. no.NotRegistered part) (Rows.unregistered t.world r) (λ a. refl))
-    (and_both _ _ (safe_map (λ place. no.Unread place (Rows.limit_for t.world r)) (Rows.unread_place (Rows.limit_for t.world r) r) (λ a. refl))
-    (and_both _ _ (safe_map (λ place. no.AlreadyAcked place) (Rows.acked_place (Rows.ack_list t.world r) r) (λ a. refl))
-    (and_both _ _ (safe_conflict (Rows.limit_for t.world r) (Rows.ack_list t.world r) r)
-    (and_both _ _ (safe_map (λ count. no.Full Transactions count) (Rows.full_transactions limits t r) (λ a. refl))
-    (and_both _ _ (safe_map (λ count. no.Full Held count) (Rows.full_held limits t.world r) (λ a. refl))
-    (and_both _ _ (safe_map (λ count. no.Full Log count) (Rows.full_log limits t.world r) (λ a. refl))
-    (and_both _ _ (safe_when (Rows.has_nothing limits t r) no.Empty refl) refl)))))))))
+    and_both _ _ (safe_when (late_row.is_not_found t.world r) no.NotFound refl)
+    (and_both _ _ (safe_map (λ status. no.NotOpen status) (late_row.forbidding_status t.world r) (λ a. refl))
+    (and_both _ _ (safe_map (λ part. no.NotRegistered part) (late_row.unregistered t.world r) (λ a. refl))
+    (and_both _ _ (safe_map (λ place. no.Unread place (limit_in t.world r)) (late_row.unread_in t.world r) (λ a. refl))
+    (and_both _ _ (safe_map (λ place. no.AlreadyAcked place) (late_row.acked_in t.world r) (λ a. refl))
+    (and_both _ _ (safe_map (λ held. no.Conflict held.0 held.1) (late_row.conflict_in t.world r) (λ a. refl))
+    (and_both _ _ (safe_map (λ count. no.Full Transactions count) (late_row.transactions_in limits t r) (λ a. refl))
+    (and_both _ _ (safe_map (λ count. no.Full Held count) (late_row.held_in limits t.world r) (λ a. refl))
+    (and_both _ _ (safe_map (λ count. no.Full Log count) (late_row.log_in limits t.world r) (λ a. refl))
+    (and_both _ _ (safe_when (late_row.has_nothing limits t r) no.Empty refl) refl)))))))))
 
 -- the row of a request that isn't refused tells of no fault
 success_safe : (limits : Limits) (t : TableState) (r : Request) → is_fault (success_of limits t r).reply ≡ false

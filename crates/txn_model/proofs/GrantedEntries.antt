@@ -9,10 +9,10 @@ use Rattle.txn_base.specs.declared.core_entry.CoreEntry.{CoreEntry}
 use Rattle.txn_base.specs.declared.core_entry.CoreEntry.TheVariants as core
 use Rattle.txn_model.specs.Words.{all_follow}
 use Rattle.txn_model.specs.Skeletons.{topic_skeletons}
-use Rattle.txn_model.specs.Coord.{closes, has_new, status_of, closing_of, decision_of, count_new, deciding, is_deciding, coord_allows, CoordLawful}
+use Rattle.txn_model.specs.Coord.{closing_skeleton, has_new, status_of, closing_of, decision_of, count_new, deciding, is_deciding, coord_allows, CoordLawful}
 use Rattle.txn_model.specs.Deadlines.{txn}
 use Rattle.txn_model.specs.Topic.{marks, marker_of, part_allows}
-use Rattle.txn_model.specs.Rows.{message_entry}
+use Rattle.txn_model.specs.Entries.{message_entry}
 use Rattle.txn_model.proofs.Bools.{and_both}
 use Rattle.txn_model.proofs.Prefixes.{first_of-append}
 use Rattle.txn_model.proofs.Statuses.{Agrees, last_by, status_by, lawful_agrees}
@@ -25,12 +25,12 @@ deciding_is : (d : Decision) → is_deciding d (Some (deciding d)) ≡ true
 deciding_is Commit = refl
 deciding_is Abort = refl
 
-closes_deciding : (n : ℕ) (c : List CoreEntry) (x : TxnId) (d : Decision) → coord_allows n c (closes x d) ≡ is_deciding d (status_of c x)
+closes_deciding : (n : ℕ) (c : List CoreEntry) (x : TxnId) (d : Decision) → coord_allows n c (closing_skeleton x d) ≡ is_deciding d (status_of c x)
 closes_deciding n c x Commit = refl
 closes_deciding n c x Abort = refl
 
 -- what is decided and not closed is closed by its decision
-pub close_allowed : (n : ℕ) (c : List CoreEntry) (x : TxnId) (d : Decision) → CoordLawful n c → closing_of c x ≡ None → decision_of c x ≡ Some d → coord_allows n c (closes x d) ≡ true
+pub close_allowed : (n : ℕ) (c : List CoreEntry) (x : TxnId) (d : Decision) → CoordLawful n c → closing_of c x ≡ None → decision_of c x ≡ Some d → coord_allows n c (closing_skeleton x d) ≡ true
 close_allowed n c x d h k e =
     subst (λ b. b ≡ true) (sym (closes_deciding n c x d)) (
     let a : Agrees c x = lawful_agrees n c x h in

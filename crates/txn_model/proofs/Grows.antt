@@ -17,7 +17,7 @@ use Rattle.txn_model.specs.Words.{list_at, with_list, append_at}
 use Rattle.txn_model.specs.Coord.{parts_of}
 use Rattle.txn_model.specs.World.{Extends, Flights, followed, kept, log_of}
 use Rattle.txn_model.specs.Table.{TableState, at_moment, Batch, nothing, in_coord, in_topic, in_sub, world_with, settled, marked, marker_batch, rebuilt, resolved, is_fenced, decision_batch, closing_batch}
-use Rattle.txn_model.specs.Rows.{Success, success_of}
+use Rattle.txn_model.specs.Successes.{Success, success_of}
 use Rattle.txn_model.specs.Drive.{Rebuilds, RebuildsAll, StaysFenced, RefusedAt, MarksAll, StopsAt, recovery_fault, recovery_memory, marker_memory, marker_fault, StopsWithin, Drives, already, closes, close_fault, stops}
 use Rattle.txn_model.specs.Answers.{uses, AppendFails, Fulfils, Ends, Succeeds, Answers, early, unrecovered, unread, late, granted, no_memory, no_memory_later, tick_target, tick_reply, reads_clock, moved}
 use Rattle.txn_model.specs.Replies.{Standing, RoseAt, Kind, too_long, blank, form, AnswersFrom, Replied, Replies}

@@ -13,13 +13,14 @@ use Rattle.txn_base.specs.declared.request.Request.{Request}
 use Rattle.txn_base.specs.declared.request.Request.TheVariants as request
 use Rattle.txn_base.specs.declared.reply.Refusal.{Refusal}
 use Rattle.txn_base.specs.declared.reply.Refusal.TheVariants as no
-use Rattle.txn_model.specs.Words.{nowhere, first_of}
+use Rattle.txn_model.specs.Words.{nowhere, when, first_of}
 use Rattle.txn_model.specs.Skeletons.{same_txn, coord_skeleton, coord_skeletons}
-use Rattle.txn_model.specs.Coord.{decides, says_decision, has_new, status_of, decision_of, closing_of, parts_of, is_open, CoordLawful}
+use Rattle.txn_model.specs.Coord.{decision_skeleton, says_decision, has_new, status_of, decision_of, closing_of, parts_of, is_open, CoordLawful}
 use Rattle.txn_model.specs.Deadlines.{transactions, is_undriven, is_due, first_due, first_undriven}
 use Rattle.txn_model.specs.World.{log_of}
 use Rattle.txn_model.specs.Table.{TableState, nothing, in_coord, settled, marked, rebuilt, decision_entry, decision_batch}
-use Rattle.txn_model.specs.Rows.{early_refusal, late_rows, late_refusal, is_not_found, when}
+use Rattle.txn_model.specs.EarlyRows.{early_refusal}
+use Rattle.txn_model.specs.LateRows.{late_rows, late_refusal, is_not_found}
 use Rattle.txn_model.specs.Drive.{Rebuilds, RebuildsAll, MarksAll, Drives, already, closes}
 use Rattle.txn_model.specs.Answers.{uses, Ends, AppendFails, Succeeds, Answers, early, late, granted, tick_target, tick_reply}
 use Rattle.txn_model.specs.Plain.{all_marked, drive_by, end_of, after_tick, plain_success, or_refused, plain_answer}
@@ -57,20 +58,20 @@ or_some : (o : Option Decision) (d : Decision) → (v : Decision) × (option_or 
 or_some None d = (d, refl)
 or_some (Some v) d = (v, refl)
 
-decides_says : (x : TxnId) (d : Decision) → says_decision x (decides x d) ≡ Some d
+decides_says : (x : TxnId) (d : Decision) → says_decision x (decision_skeleton x d) ≡ Some d
 decides_says x Commit = ap (λ b. if b then Some Commit else None) (same_self x)
 decides_says x Abort = ap (λ b. if b then Some Abort else None) (same_self x)
 
-decided_now : (c : List CoreEntry) (x : TxnId) (d : Decision) → (v : Decision) × (decision_of (c ++ decides x d ∷ []) x ≡ Some v)
+decided_now : (c : List CoreEntry) (x : TxnId) (d : Decision) → (v : Decision) × (decision_of (c ++ decision_skeleton x d ∷ []) x ≡ Some v)
 decided_now c x d =
     let v : (v : Decision) × (option_or (decision_of c x) (Some d) ≡ Some v) = or_some (decision_of c x) d in
-    (v.0, first_of-append (says_decision x) c (decides x d ∷ []) ∙ ap (λ o. option_or (decision_of c x) (option_or o None)) (decides_says x d) ∙ v.1)
+    (v.0, first_of-append (says_decision x) c (decision_skeleton x d ∷ []) ∙ ap (λ o. option_or (decision_of c x) (option_or o None)) (decides_says x d) ∙ v.1)
 
-skeleton_decides : (x : TxnId) (d : Decision) → coord_skeleton (decision_entry x d) ≡ decides x d
+skeleton_decides : (x : TxnId) (d : Decision) → coord_skeleton (decision_entry x d) ≡ decision_skeleton x d
 skeleton_decides x Commit = refl
 skeleton_decides x Abort = refl
 
-log_decided : (c : List CoordEntry) (x : TxnId) (d : Decision) → coord_skeletons (c ++ decision_entry x d ∷ []) ≡ coord_skeletons c ++ decides x d ∷ []
+log_decided : (c : List CoordEntry) (x : TxnId) (d : Decision) → coord_skeletons (c ++ decision_entry x d ∷ []) ≡ coord_skeletons c ++ decision_skeleton x d ∷ []
 log_decided c x d = map_append coord_skeleton c (decision_entry x d ∷ []) ∙ ap (λ e. coord_skeletons c ++ e ∷ []) (skeleton_decides x d)
 
 shut_by : (n : Bool) (k d : Option Decision) → is_none (status_by n (last_by k d)) ≡ false → is_open (status_by n (last_by k d)) ≡ false → k ≡ None → (v : Decision) × (d ≡ Some v)

@@ -17,7 +17,8 @@ use Rattle.txn_model.specs.Words.{nowhere}
 use Rattle.txn_model.specs.Coord.{decision_of, parts_of}
 use Rattle.txn_model.specs.World.{log_of}
 use Rattle.txn_model.specs.Table.{TableState, settled, marked, rebuilt, is_fenced, decision_batch, closing_batch}
-use Rattle.txn_model.specs.Rows.{Success, success_of, late_refusal}
+use Rattle.txn_model.specs.LateRows.{late_refusal}
+use Rattle.txn_model.specs.Successes.{Success, success_of}
 use Rattle.txn_model.specs.Drive.{Rebuilds, RebuildsAll, RefusedAt, MarksAll, StopsAt, recovery_fault, recovery_memory, marker_memory, marker_fault, StopsWithin, Drives, already, closes, close_fault, stops}
 use Rattle.txn_model.specs.Answers.{uses, AppendFails, Fulfils, Ends, Succeeds, Answers, early, unrecovered, unread, late, granted, no_memory, no_memory_later, tick_target, tick_reply}
 use Rattle.txn_model.specs.Plain.{all_marked, drive_by, drive_of, end_of, after_tick, after_success, plain_success, or_refused, plain_answer}

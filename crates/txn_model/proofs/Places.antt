@@ -8,13 +8,14 @@ use Rattle.txn_base.specs.declared.core_entry.CoreEntry.{CoreEntry}
 use Rattle.txn_base.specs.declared.entry.TopicEntry.{TopicEntry}
 use Rattle.txn_base.specs.declared.entry.TopicEntry.TheVariants as topic
 use Rattle.txn_model.specs.Skeletons.{topic_skeletons}
-use Rattle.txn_model.specs.Topic.{marker_of, message, shown, visible_from, visible_of}
+use Rattle.txn_model.specs.Topic.{marker_of, shown, visible_from, visible_of}
+use Rattle.txn_model.specs.Entries.{message_at}
 use Rattle.txn_model.specs.VisiblePlaces.{shown_place, visible_places_from, visible_places}
 
 abbrev places_of : List Message → List ℕ
 places_of ms = map (λ m. m.place) ms
 
-shown_places : (o : Option Decision) (k : ℕ) (body : List ℕ) (rest : List Message) (places : List ℕ) → places_of rest ≡ places → places_of (shown o (message k body) rest) ≡ shown_place o k places
+shown_places : (o : Option Decision) (k : ℕ) (body : List ℕ) (rest : List Message) (places : List ℕ) → places_of rest ≡ places → places_of (shown o (message_at k body) rest) ≡ shown_place o k places
 shown_places (Some Commit) k body rest places h = ap (λ l. k ∷ l) h
 shown_places (Some Abort) k body rest places h = h
 shown_places None k body rest places h = refl

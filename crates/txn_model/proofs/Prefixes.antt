@@ -16,7 +16,8 @@ use Rattle.txn_base.specs.declared.entry.AckEntry.{AckEntry}
 use Rattle.txn_base.specs.declared.entry.AckEntry.TheVariants as ack
 use Rattle.txn_model.specs.Words.{first_of, all_follow}
 use Rattle.txn_model.specs.Skeletons.{topic_skeleton, ack_skeleton, topic_skeletons, ack_skeletons}
-use Rattle.txn_model.specs.Topic.{marks, marker_of, is_undecided, limit_from, limit_of, message, shown, visible_from, visible_of}
+use Rattle.txn_model.specs.Topic.{marks, marker_of, is_undecided, limit_from, limit_of, shown, visible_from, visible_of}
+use Rattle.txn_model.specs.Entries.{message_at}
 use Rattle.txn_model.specs.Ack.{covers, is_commit, counts, is_acked}
 use Rattle.txn_model.proofs.Bools.{no_true, and_l, and_r, and_both, and_assoc, or_cases, or_l, or_r}
 
@@ -59,9 +60,9 @@ shown_longer (Some Abort) o' m xs ys stays p = subst (λ q. IsPrefix xs (shown q
 
 longer : (all more : List CoreEntry) (k : ℕ) (es rest : List TopicEntry) → IsPrefix (visible_from all k es) (visible_from (all ++ more) k (es ++ rest))
 longer all more k [] rest = (visible_from (all ++ more) k rest, refl)
-longer all more k (topic.Plain body ∷ es) rest = cons_prefix (message k body.bytes) (visible_from all (suc k) es) (visible_from (all ++ more) (suc k) (es ++ rest)) (longer all more (suc k) es rest)
+longer all more k (topic.Plain body ∷ es) rest = cons_prefix (message_at k body.bytes) (visible_from all (suc k) es) (visible_from (all ++ more) (suc k) (es ++ rest)) (longer all more (suc k) es rest)
 longer all more k (topic.Opened x body ∷ es) rest =
-    shown_longer (marker_of all x) (marker_of (all ++ more) x) (message k body.bytes) (visible_from all (suc k) es) (visible_from (all ++ more) (suc k) (es ++ rest))
+    shown_longer (marker_of all x) (marker_of (all ++ more) x) (message_at k body.bytes) (visible_from all (suc k) es) (visible_from (all ++ more) (suc k) (es ++ rest))
     (λ d h. first_stays (marks x) all more d h) (longer all more (suc k) es rest)
 longer all more k (topic.Commit x ∷ es) rest = longer all more (suc k) es rest
 longer all more k (topic.Abort x ∷ es) rest = longer all more (suc k) es rest

@@ -9,7 +9,8 @@ use Rattle.txn_base.specs.declared.entry.TopicEntry.{TopicEntry}
 use Rattle.txn_base.specs.declared.entry.TopicEntry.TheVariants as topic
 use Rattle.std.specs.Prelude.{is_none}
 use Rattle.txn_model.specs.Skeletons.{topic_skeleton}
-use Rattle.txn_model.specs.Topic.{marker_of, is_undecided, message, shown, shown_where, shows, visible_from}
+use Rattle.txn_model.specs.Topic.{marker_of, is_undecided, shown, shown_where, shows, visible_from}
+use Rattle.txn_model.specs.Entries.{message_at}
 
 shown_split : (o : Option Decision) (m : Message) (rest : List Message) → shown o m rest ≡ (if is_none o then [] else option_to_list (shown_where o m) ++ rest)
 shown_split None m rest = refl
@@ -20,6 +21,6 @@ shown_split (Some Abort) m rest = refl
 pub visible_split : (all : List CoreEntry) (k : ℕ) (e : TopicEntry) (es : List TopicEntry) →
     visible_from all k (e ∷ es) ≡ (if is_undecided all (topic_skeleton e) then [] else option_to_list (shows all k e) ++ visible_from all (suc k) es)
 visible_split all k (topic.Plain body) es = refl
-visible_split all k (topic.Opened x body) es = shown_split (marker_of all x) (message k body.bytes) (visible_from all (suc k) es)
+visible_split all k (topic.Opened x body) es = shown_split (marker_of all x) (message_at k body.bytes) (visible_from all (suc k) es)
 visible_split all k (topic.Commit x) es = refl
 visible_split all k (topic.Abort x) es = refl

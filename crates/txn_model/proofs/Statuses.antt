@@ -12,7 +12,7 @@ use Rattle.txn_base.specs.declared.core_entry.CoreEntry.{CoreEntry}
 use Rattle.txn_base.specs.declared.core_entry.CoreEntry.TheVariants as core
 use Rattle.txn_model.specs.Words.{last_of, all_follow}
 use Rattle.txn_model.specs.Skeletons.{same_txn}
-use Rattle.txn_model.specs.Coord.{decides, closes, deciding, closed, is_new, says_status, says_decision, says_closing, has_new, status_of, decision_of, closing_of, is_open, is_deciding, coord_allows, CoordLawful}
+use Rattle.txn_model.specs.Coord.{decision_skeleton, closing_skeleton, deciding, closed, is_new, says_status, says_decision, says_closing, has_new, status_of, decision_of, closing_of, is_open, is_deciding, coord_allows, CoordLawful}
 use Rattle.txn_model.proofs.Bools.{no_true, and_l, and_r, or_l}
 use Rattle.txn_model.proofs.Prefixes.{first_of-append, all_follow-append}
 
@@ -121,7 +121,7 @@ after_entry c e x a =
 status_is : (c : List CoreEntry) (x y : TxnId) (f : Option Status → Bool) → f (status_of c y) ≡ true → same_txn x y ≡ true → f (status_by (has_new c x) (last_of (says_status x) c)) ≡ true
 status_is c x y f h e = subst (λ z. f (status_of c z) ≡ true) (sym (txn_equal x y e)) h
 
-decided_step : (n : ℕ) (c : List CoreEntry) (y : TxnId) (d : Decision) (x : TxnId) → Agrees c x → is_open (status_of c y) ≡ true → Agrees (c ++ decides y d ∷ []) x
+decided_step : (n : ℕ) (c : List CoreEntry) (y : TxnId) (d : Decision) (x : TxnId) → Agrees c x → is_open (status_of c y) ≡ true → Agrees (c ++ decision_skeleton y d ∷ []) x
 decided_step n c y Commit x a h =
     after_entry c (core.Committing y) x
     (subst (λ o. Agree (has_new c x || false) (option_or (if same_txn x y then Some (deciding Commit) else None) (last_of (says_status x) c)) (option_or (closing_of c x) None) (option_or (decision_of c x) o)) (sym (or_none (if same_txn x y then Some Commit else None)))
@@ -131,7 +131,7 @@ decided_step n c y Abort x a h =
     (subst (λ o. Agree (has_new c x || false) (option_or (if same_txn x y then Some (deciding Abort) else None) (last_of (says_status x) c)) (option_or (closing_of c x) None) (option_or (decision_of c x) o)) (sym (or_none (if same_txn x y then Some Abort else None)))
     (decide_step (has_new c x) (last_of (says_status x) c) (closing_of c x) (decision_of c x) Abort (same_txn x y) a (status_is c x y is_open h)))
 
-closed_step : (n : ℕ) (c : List CoreEntry) (y : TxnId) (d : Decision) (x : TxnId) → Agrees c x → is_deciding d (status_of c y) ≡ true → Agrees (c ++ closes y d ∷ []) x
+closed_step : (n : ℕ) (c : List CoreEntry) (y : TxnId) (d : Decision) (x : TxnId) → Agrees c x → is_deciding d (status_of c y) ≡ true → Agrees (c ++ closing_skeleton y d ∷ []) x
 closed_step n c y Commit x a h =
     after_entry c (core.Committed y) x
     (subst (λ o. Agree (has_new c x || false) (option_or (if same_txn x y then Some (closed Commit) else None) (last_of (says_status x) c)) (option_or (closing_of c x) o) (option_or (decision_of c x) None)) (sym (or_none (if same_txn x y then Some Commit else None)))
@@ -170,14 +170,14 @@ lawful_agrees n c x h = agrees_along n [] c x (record { said = refl; when_closed
     none_some h = cc
 
 -- the entry that decides is allowed where the transaction is open
-decides_open : (n : ℕ) (c : List CoreEntry) (x : TxnId) (d : Decision) → coord_allows n c (decides x d) ≡ is_open (status_of c x)
+decides_open : (n : ℕ) (c : List CoreEntry) (x : TxnId) (d : Decision) → coord_allows n c (decision_skeleton x d) ≡ is_open (status_of c x)
 decides_open n c x Commit = refl
 decides_open n c x Abort = refl
 
 -- where a decision is logged in a lawful log, none was logged before it
-pub undecided_before : (n : ℕ) (c : List CoreEntry) (x : TxnId) (d : Decision) (more : List CoreEntry) → CoordLawful n (c ++ decides x d ∷ more) → decision_of c x ≡ None
+pub undecided_before : (n : ℕ) (c : List CoreEntry) (x : TxnId) (d : Decision) (more : List CoreEntry) → CoordLawful n (c ++ decision_skeleton x d ∷ more) → decision_of c x ≡ None
 undecided_before n c x d more h =
-    let both : (all_follow (coord_allows n) [] c && all_follow (coord_allows n) ([] ++ c) (decides x d ∷ more)) ≡ true = sym (all_follow-append (coord_allows n) [] c (decides x d ∷ more)) ∙ h in
-    let a : Agrees c x = lawful_agrees n c x (and_l (all_follow (coord_allows n) [] c) (all_follow (coord_allows n) ([] ++ c) (decides x d ∷ more)) both) in
-    let may : is_open (status_of c x) ≡ true = sym (decides_open n c x d) ∙ and_l (coord_allows n c (decides x d)) (all_follow (coord_allows n) (c ++ decides x d ∷ []) more) (and_r (all_follow (coord_allows n) [] c) (all_follow (coord_allows n) ([] ++ c) (decides x d ∷ more)) both) in
+    let both : (all_follow (coord_allows n) [] c && all_follow (coord_allows n) ([] ++ c) (decision_skeleton x d ∷ more)) ≡ true = sym (all_follow-append (coord_allows n) [] c (decision_skeleton x d ∷ more)) ∙ h in
+    let a : Agrees c x = lawful_agrees n c x (and_l (all_follow (coord_allows n) [] c) (all_follow (coord_allows n) ([] ++ c) (decision_skeleton x d ∷ more)) both) in
+    let may : is_open (status_of c x) ≡ true = sym (decides_open n c x d) ∙ and_l (coord_allows n c (decision_skeleton x d)) (all_follow (coord_allows n) (c ++ decision_skeleton x d ∷ []) more) (and_r (all_follow (coord_allows n) [] c) (all_follow (coord_allows n) ([] ++ c) (decision_skeleton x d ∷ more)) both) in
     (open_means (has_new c x) (closing_of c x) (decision_of c x) (subst (λ u. is_open (status_by (has_new c x) u) ≡ true) a.said may)).2

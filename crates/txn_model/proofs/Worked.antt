@@ -7,11 +7,12 @@ use Rattle.txn_base.specs.declared.request.Request.{Request}
 use Rattle.txn_base.specs.declared.request.Request.TheVariants as request
 use Rattle.txn_base.specs.declared.reply.Reply.TheVariants as reply
 use Rattle.txn_base.specs.declared.reply.Refusal.TheVariants as no
-use Rattle.txn_model.specs.Topic.{message}
+use Rattle.txn_model.specs.Entries.{message_at}
 use Rattle.txn_model.specs.Deadlines.{txn}
 use Rattle.txn_model.specs.Drive.{ended}
 use Rattle.txn_model.specs.Table.{TableState}
-use Rattle.txn_model.specs.Plain.{plain_replies, fresh}
+use Rattle.txn_model.specs.Plain.{plain_replies}
+use Rattle.txn_model.specs.Opening.{fresh}
 
 abbrev orders : List ℕ
 orders = codes "orders"
@@ -43,7 +44,7 @@ pub commit_lifts_the_read_barrier : plain_replies standard one_topic (at_0 (
     request.New 60000 ∷ request.Add (txn 0) orders ∷ request.Publish orders (Some (txn 0)) (b ∷ []) ∷ request.Publish orders None (c ∷ []) ∷ read_all
     ∷ request.Commit (txn 0) ∷ read_all ∷ []))
     ≡ reply.New (txn 0) ∷ reply.Add ∷ reply.Publish 0 1 ∷ reply.Publish 1 1 ∷ reply.Read 0 []
-    ∷ reply.Ended Commit (ended Committed) ∷ reply.Read 3 (message 0 b ∷ message 1 c ∷ []) ∷ []
+    ∷ reply.Ended Commit (ended Committed) ∷ reply.Read 3 (message_at 0 b ∷ message_at 1 c ∷ []) ∷ []
 commit_lifts_the_read_barrier = refl
 
 -- After an abort its message isn't shown.
@@ -51,7 +52,7 @@ pub abort_hides_its_message : plain_replies standard one_topic (at_0 (
     request.New 60000 ∷ request.Add (txn 0) orders ∷ request.Publish orders (Some (txn 0)) (b ∷ []) ∷ request.Publish orders None (c ∷ [])
     ∷ request.Abort (txn 0) ∷ read_all ∷ []))
     ≡ reply.New (txn 0) ∷ reply.Add ∷ reply.Publish 0 1 ∷ reply.Publish 1 1
-    ∷ reply.Ended Abort (ended Aborted) ∷ reply.Read 3 (message 1 c ∷ []) ∷ []
+    ∷ reply.Ended Abort (ended Aborted) ∷ reply.Read 3 (message_at 1 c ∷ []) ∷ []
 abort_hides_its_message = refl
 
 -- A commit without parts closes at once; again it adds nothing; the opposite end is refused, and so are publishes.
@@ -69,5 +70,5 @@ pub earliest_open_transaction_bounds_reads : plain_replies standard one_topic (a
     ∷ request.Publish orders (Some (txn 0)) (a ∷ []) ∷ request.Publish orders (Some (txn 1)) (b ∷ [])
     ∷ request.Commit (txn 1) ∷ read_all ∷ request.Commit (txn 0) ∷ read_all ∷ []))
     ≡ reply.New (txn 0) ∷ reply.New (txn 1) ∷ reply.Add ∷ reply.Add ∷ reply.Publish 0 1 ∷ reply.Publish 1 1
-    ∷ reply.Ended Commit (ended Committed) ∷ reply.Read 0 [] ∷ reply.Ended Commit (ended Committed) ∷ reply.Read 4 (message 0 a ∷ message 1 b ∷ []) ∷ []
+    ∷ reply.Ended Commit (ended Committed) ∷ reply.Read 0 [] ∷ reply.Ended Commit (ended Committed) ∷ reply.Read 4 (message_at 0 a ∷ message_at 1 b ∷ []) ∷ []
 earliest_open_transaction_bounds_reads = refl

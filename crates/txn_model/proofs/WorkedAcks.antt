@@ -8,11 +8,12 @@ use Rattle.txn_base.specs.declared.request.Request.TheVariants as request
 use Rattle.txn_base.specs.declared.reply.Reply.{Reply}
 use Rattle.txn_base.specs.declared.reply.Reply.TheVariants as reply
 use Rattle.txn_base.specs.declared.reply.Refusal.TheVariants as no
-use Rattle.txn_model.specs.Topic.{message}
+use Rattle.txn_model.specs.Entries.{message_at}
 use Rattle.txn_model.specs.Deadlines.{txn}
 use Rattle.txn_model.specs.Drive.{ended}
 use Rattle.txn_model.specs.Table.{TableState}
-use Rattle.txn_model.specs.Plain.{plain_replies, fresh}
+use Rattle.txn_model.specs.Plain.{plain_replies}
+use Rattle.txn_model.specs.Opening.{fresh}
 
 abbrev orders : List ℕ
 orders = codes "orders"
@@ -69,8 +70,8 @@ tick_expires_at_its_deadline = refl
 pub redeliver_and_abort_undeliver : plain_replies standard with_sub (at_0 (
     request.Publish orders None (codes "a" ∷ codes "b" ∷ []) ∷ request.Receive billing 5 ∷ request.Receive billing 5 ∷ request.Redeliver billing ∷ request.Receive billing 5
     ∷ request.New 60000 ∷ request.Add (txn 0) billing ∷ request.Ack billing (Some (txn 0)) (0 ∷ []) ∷ request.Abort (txn 0) ∷ request.Receive billing 5 ∷ []))
-    ≡ reply.Publish 0 2 ∷ reply.Receive (message 0 (codes "a") ∷ message 1 (codes "b") ∷ []) ∷ reply.No no.Empty ∷ reply.Redeliver ∷ reply.Receive (message 0 (codes "a") ∷ message 1 (codes "b") ∷ [])
-    ∷ reply.New (txn 0) ∷ reply.Add ∷ reply.Ack ∷ reply.Ended Abort (ended Aborted) ∷ reply.Receive (message 0 (codes "a") ∷ []) ∷ []
+    ≡ reply.Publish 0 2 ∷ reply.Receive (message_at 0 (codes "a") ∷ message_at 1 (codes "b") ∷ []) ∷ reply.No no.Empty ∷ reply.Redeliver ∷ reply.Receive (message_at 0 (codes "a") ∷ message_at 1 (codes "b") ∷ [])
+    ∷ reply.New (txn 0) ∷ reply.Add ∷ reply.Ack ∷ reply.Ended Abort (ended Aborted) ∷ reply.Receive (message_at 0 (codes "a") ∷ []) ∷ []
 redeliver_and_abort_undeliver = refl
 
 -- Unknown names and names of the other kind.

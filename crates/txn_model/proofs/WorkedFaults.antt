@@ -9,12 +9,13 @@ use Rattle.txn_base.specs.declared.request.Request.TheVariants as request
 use Rattle.txn_base.specs.declared.reply.Reply.TheVariants as reply
 use Rattle.txn_base.specs.declared.reply.Outcome.{Outcome}
 use Rattle.txn_base.specs.declared.reply.Why.TheVariants as why
-use Rattle.txn_model.specs.Topic.{message}
+use Rattle.txn_model.specs.Entries.{message_at}
 use Rattle.txn_model.specs.Deadlines.{txn}
 use Rattle.txn_model.specs.Table.{TableState, settled, fenced_by, rebuilt, marked, marker_batch, closing_batch, decision_batch}
 use Rattle.txn_model.specs.Drive.{ended, closes, stops, marker_fault}
 use Rattle.txn_model.specs.Answers.{Answers, granted, moved}
-use Rattle.txn_model.specs.Plain.{fresh, plain_answer}
+use Rattle.txn_model.specs.Plain.{plain_answer}
+use Rattle.txn_model.specs.Opening.{fresh}
 
 abbrev orders : List ℕ
 orders = codes "orders"
@@ -59,8 +60,8 @@ repeated_commit stays =
     (inl (ended Committed, closes Commit refl refl (again stays) (rebuilt 1 stays stopped, (stays, refl), refl) refl refl, refl))
 
 -- and the message is read, with one marker behind it
-pub then_read_dropped : (plain_answer standard (settled (closing_batch (txn 0) Commit) (again false)) (request.Read orders 0 10)).0 ≡ reply.Read 2 (message 0 (codes "b") ∷ [])
+pub then_read_dropped : (plain_answer standard (settled (closing_batch (txn 0) Commit) (again false)) (request.Read orders 0 10)).0 ≡ reply.Read 2 (message_at 0 (codes "b") ∷ [])
 then_read_dropped = refl
 
-pub then_read_kept : (plain_answer standard (settled (closing_batch (txn 0) Commit) (again true)) (request.Read orders 0 10)).0 ≡ reply.Read 2 (message 0 (codes "b") ∷ [])
+pub then_read_kept : (plain_answer standard (settled (closing_batch (txn 0) Commit) (again true)) (request.Read orders 0 10)).0 ≡ reply.Read 2 (message_at 0 (codes "b") ∷ [])
 then_read_kept = refl

@@ -16,7 +16,8 @@ use Rattle.txn_model.specs.Ack.{ack_allows, AckLawful, holder_of}
 use Rattle.txn_model.specs.Deadlines.{txn, low_of}
 use Rattle.txn_model.specs.World.{log_of}
 use Rattle.txn_model.specs.Table.{TableState}
-use Rattle.txn_model.specs.Plain.{fresh, plain_answer}
+use Rattle.txn_model.specs.Plain.{plain_answer}
+use Rattle.txn_model.specs.Opening.{fresh}
 use Rattle.txn_model.specs.Answers.{moved}
 
 abbrev after : TableState → List Request → TableState

@@ -8,7 +8,7 @@ use Rattle.txn_base.specs.declared.request.Request.TheVariants as request
 use Rattle.txn_base.specs.declared.reply.Reply.TheVariants as reply
 use Rattle.txn_model.specs.declared.world.World.{World}
 use Rattle.txn_base.specs.Bytes.{only_bytes}
-use Rattle.txn_model.specs.Topic.{message}
+use Rattle.txn_model.specs.Entries.{message_at}
 use Rattle.txn_model.specs.Deadlines.{txn}
 use Rattle.txn_model.specs.Plain.{plain_replies}
 use Rattle.txn_model.specs.Opening.{opened}
@@ -24,5 +24,5 @@ left_committing =
 
 -- A transaction that was left Committing is driven at opening.
 pub opening_redrives_committing : plain_replies standard (opened left_committing (codes "orders" ∷ [])) ((0, request.Status (txn 0)) ∷ (0, request.Read (codes "orders") 0 10) ∷ [])
-    ≡ reply.Status Committed ∷ reply.Read 2 (message 0 (codes "b") ∷ []) ∷ []
+    ≡ reply.Status Committed ∷ reply.Read 2 (message_at 0 (codes "b") ∷ []) ∷ []
 opening_redrives_committing = refl

@@ -18,7 +18,10 @@ use Rattle.txn_base.specs.Names.{topic_of}
 use Rattle.txn_model.specs.Names.{name_of}
 use Rattle.txn_model.specs.Deadlines.{first_due, first_undriven, left_of}
 use Rattle.txn_model.specs.Table.{TableState, Batch, batch_part, settled, fenced_by, at_moment, decision_batch}
-use Rattle.txn_model.specs.Rows.{Success, success_of, early_refusal, late_refusal, number_of}
+use Rattle.txn_model.specs.Requests.{number_of}
+use Rattle.txn_model.specs.EarlyRows.{early_refusal}
+use Rattle.txn_model.specs.LateRows.{late_refusal}
+use Rattle.txn_model.specs.Successes.{Success, success_of}
 use Rattle.txn_model.specs.Drive.{RebuildsAll, RebuildsSome, RefusedAt, Drives}
 
 -- The parts that a request uses, in the order of their recovery: the coordinator, the topic, the subscription.

@@ -21,13 +21,13 @@ closed Commit = Committed
 closed Abort = Aborted
 
 -- The entry that decides x by d; the one that closes it.
-abbrev pub decides : TxnId → Decision → CoreEntry
-decides x Commit = core.Committing x
-decides x Abort = core.Aborting x
+abbrev pub decision_skeleton : TxnId → Decision → CoreEntry
+decision_skeleton x Commit = core.Committing x
+decision_skeleton x Abort = core.Aborting x
 
-abbrev pub closes : TxnId → Decision → CoreEntry
-closes x Commit = core.Committed x
-closes x Abort = core.Aborted x
+abbrev pub closing_skeleton : TxnId → Decision → CoreEntry
+closing_skeleton x Commit = core.Committed x
+closing_skeleton x Abort = core.Aborted x
 
 -- For x, the entry is its New.
 abbrev pub is_new : TxnId → CoreEntry → Bool

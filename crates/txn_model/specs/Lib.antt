@@ -1,5 +1,6 @@
 pub mod Words
 pub mod Skeletons
+pub mod Entries
 pub mod Names
 pub mod Coord
 pub mod Deadlines
@@ -7,9 +8,16 @@ pub mod Texts
 pub mod Topic
 pub mod VisiblePlaces
 pub mod Ack
+pub mod AckRules
+pub mod Full
+pub mod Delivery
 pub mod World
 pub mod Table
-pub mod Rows
+pub mod Shape
+pub mod Requests
+pub mod EarlyRows
+pub mod LateRows
+pub mod Successes
 pub mod Drive
 pub mod Answers
 pub mod Replies

@@ -1,5 +1,5 @@
 -- The table where nothing fails and there is memory: then the reply and what stands afterwards are functions.
-use Rattle.std.specs.Prelude.{ℕ, suc, Bool, if◌then◌else◌, List, [], ◌∷◌, Option, Some, None, not}
+use Rattle.std.specs.Prelude.{ℕ, List, [], ◌∷◌, Option, Some, None}
 use Rattle.std.specs.Option.{option_or}
 use Rattle.txn_base.specs.declared.limits.Limits.{Limits}
 use Rattle.txn_base.specs.declared.txn.TxnId.{TxnId}
@@ -12,12 +12,12 @@ use Rattle.txn_base.specs.declared.request.Request.TheVariants as request
 use Rattle.txn_base.specs.declared.reply.Reply.{Reply}
 use Rattle.txn_base.specs.declared.reply.Reply.TheVariants as reply
 use Rattle.txn_base.specs.declared.reply.Refusal.{Refusal}
-use Rattle.txn_model.specs.Words.{nowhere}
-use Rattle.txn_base.specs.Names.{is_sub}
 use Rattle.txn_model.specs.Coord.{decision_of, closing_of, parts_of, closed}
-use Rattle.txn_model.specs.World.{log_of, no_flights}
+use Rattle.txn_model.specs.World.{log_of}
 use Rattle.txn_model.specs.Table.{TableState, settled, decision_batch, closing_batch, marked}
-use Rattle.txn_model.specs.Rows.{Success, success_of, early_refusal, late_refusal}
+use Rattle.txn_model.specs.EarlyRows.{early_refusal}
+use Rattle.txn_model.specs.LateRows.{late_refusal}
+use Rattle.txn_model.specs.Successes.{Success, success_of}
 use Rattle.txn_model.specs.Drive.{ended}
 use Rattle.txn_model.specs.Answers.{tick_target, tick_reply, moved}
 
@@ -72,20 +72,3 @@ plain_replies limits t [] = []
 plain_replies limits t (m ∷ ms) =
     let done : Reply × TableState = plain_answer limits (moved m.1 m.0 t) m.1 in
     done.0 ∷ plain_replies limits done.1 ms
-
--- An empty list for each name of one kind, by its number.
-abbrev pub lists_for : {E : Type 0} → (List ℕ → Bool) → ℕ → List (List ℕ) → List (ℕ × List E)
-lists_for test k [] = []
-lists_for {E} test k (name ∷ names) = if test name then (k, []) ∷ lists_for {E = E} test (suc k) names else lists_for {E = E} test (suc k) names
-
--- The table over empty lists of parts with these names.
-abbrev pub fresh : List (List ℕ) → TableState
-fresh names =
-    record {
-      world = record { names = names; coord = []; topics = lists_for (λ name. not (is_sub name)) 1 names; subs = lists_for is_sub 1 names };
-      flights = no_flights;
-      fenced = nowhere;
-      latest = 0;
-      opened_low = 0;
-      given = λ s. nowhere;
-    }

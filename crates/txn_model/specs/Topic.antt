@@ -8,9 +8,9 @@ use Rattle.txn_base.specs.declared.txn.Decision.TheVariants.{Commit, Abort}
 use Rattle.txn_base.specs.declared.core_entry.CoreEntry.{CoreEntry}
 use Rattle.txn_base.specs.declared.core_entry.CoreEntry.TheVariants as core
 use Rattle.txn_base.specs.declared.entry.TopicEntry.{TopicEntry}
-use Rattle.txn_base.specs.declared.entry.TopicEntry.TheVariants as topic
 use Rattle.txn_model.specs.Words.{first_of, IsLawfulBy}
-use Rattle.txn_model.specs.Skeletons.{same_txn, topic_skeletons}
+use Rattle.txn_model.specs.Skeletons.{same_txn, topic_skeleton, topic_skeletons}
+use Rattle.txn_model.specs.Entries.{message_of}
 
 -- Of x, the end that an entry says.
 abbrev pub marks : TxnId → CoreEntry → Option Decision
@@ -46,10 +46,6 @@ limit_from all k (e ∷ es) = if is_undecided all e then k else limit_from all (
 abbrev pub limit_of : List TopicEntry → ℕ
 limit_of es = limit_from (topic_skeletons es) 0 (topic_skeletons es)
 
--- At place k, the message with this body.
-abbrev pub message : ℕ → List ℕ → Message
-message k body = record { place = k; body = body }
-
 -- A message by the marker of its transaction: shown where it is a commit, passed over where it is an abort; and
 -- where there is none, the limit stands here, and neither it nor the rest is shown.
 abbrev pub shown : Option Decision → Message → List Message → List Message
@@ -62,18 +58,26 @@ abbrev pub shown_where : Option Decision → Message → Option Message
 shown_where (Some Commit) m = Some m
 shown_where _ m = None
 
+-- By its kind, where all are the whole list, an entry's message before the rest: shown where it is plain, by the marker
+-- where it is of a transaction, and left out where the entry is a marker.
+abbrev pub shown_by : List CoreEntry → CoreEntry → Message → List Message → List Message
+shown_by all core.Plain m rest = m ∷ rest
+shown_by all (core.Inside x) m rest = shown (marker_of all x) m rest
+shown_by all _ m rest = rest
+
+-- By its kind, where all are the whole list, the message that an entry shows if no undecided one stands before it.
+abbrev pub shows_by : List CoreEntry → CoreEntry → Message → Option Message
+shows_by all core.Plain m = Some m
+shows_by all (core.Inside x) m = shown_where (marker_of all x) m
+shows_by all _ m = None
+
+abbrev pub shows : List CoreEntry → ℕ → TopicEntry → Option Message
+shows all k e = shows_by all (topic_skeleton e) (message_of k e)
+
 -- From place k on, where all are the whole list, the visible messages.
 abbrev pub visible_from : List CoreEntry → ℕ → List TopicEntry → List Message
 visible_from all k [] = []
-visible_from all k (topic.Plain body ∷ es) = message k body.bytes ∷ visible_from all (suc k) es
-visible_from all k (topic.Opened x body ∷ es) = shown (marker_of all x) (message k body.bytes) (visible_from all (suc k) es)
-visible_from all k (_ ∷ es) = visible_from all (suc k) es
-
--- At place k, where all are the whole list, the message that an entry shows if no undecided one stands before it.
-abbrev pub shows : List CoreEntry → ℕ → TopicEntry → Option Message
-shows all k (topic.Plain body) = Some (message k body.bytes)
-shows all k (topic.Opened x body) = shown_where (marker_of all x) (message k body.bytes)
-shows all k _ = None
+visible_from all k (e ∷ es) = shown_by all (topic_skeleton e) (message_of k e) (visible_from all (suc k) es)
 
 -- The visible messages of a topic's list, in order: of the places below the limit, the plain messages and those of
 -- transactions with a commit marker.

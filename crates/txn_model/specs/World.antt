@@ -35,17 +35,18 @@ is_inside x _ = false
 abbrev pub has_inside : List CoreEntry → TxnId → Bool
 has_inside es x = list_any (is_inside x) es
 
+-- Over the log c and the lists of the parts:
 -- Registered first: a message or hold of x in the list of p needs p among the parts of x.
-abbrev pub RegisteredFirst : World → Type 0
-RegisteredFirst w = (p : ℕ) (x : TxnId) → has_inside (part_skeletons w p) x ≡ true → in_parts (log_of w) x p ≡ true
+abbrev pub RegisteredFirst : List CoreEntry → (ℕ → List CoreEntry) → Type 0
+RegisteredFirst c parts = (p : ℕ) (x : TxnId) → has_inside (parts p) x ≡ true → in_parts c x p ≡ true
 
 -- A marker follows its decision: a marker d of x in the list of p needs the logged decision d of x.
-abbrev pub MarkerDecided : World → Type 0
-MarkerDecided w = (p : ℕ) (x : TxnId) (d : Decision) → marker_of (part_skeletons w p) x ≡ Some d → decision_of (log_of w) x ≡ Some d
+abbrev pub MarkerDecided : List CoreEntry → (ℕ → List CoreEntry) → Type 0
+MarkerDecided c parts = (p : ℕ) (x : TxnId) (d : Decision) → marker_of (parts p) x ≡ Some d → decision_of c x ≡ Some d
 
 -- Closed after all markers: where x is closed by d, each of its parts has the marker d of x.
-abbrev pub ClosedComplete : World → Type 0
-ClosedComplete w = (x : TxnId) (d : Decision) (p : ℕ) → closing_of (log_of w) x ≡ Some d → in_parts (log_of w) x p ≡ true → marker_of (part_skeletons w p) x ≡ Some d
+abbrev pub ClosedComplete : List CoreEntry → (ℕ → List CoreEntry) → Type 0
+ClosedComplete c parts = (x : TxnId) (d : Decision) (p : ℕ) → closing_of c x ≡ Some d → in_parts c x p ≡ true → marker_of (parts p) x ≡ Some d
 
 -- A world is lawful where each of its lists is, and the three rules across lists hold.
 pub record Lawful (w : World) : Type 0 where
@@ -53,9 +54,9 @@ pub record Lawful (w : World) : Type 0 where
   pub coord : CoordLawful (length w.names) (log_of w)
   pub topics : (p : ℕ) → TopicLawful (list_at w.topics p)
   pub subs : (p : ℕ) → AckLawful (list_at w.subs p)
-  pub registered : RegisteredFirst w
-  pub decided : MarkerDecided w
-  pub closed : ClosedComplete w
+  pub registered : RegisteredFirst (log_of w) (part_skeletons w)
+  pub decided : MarkerDecided (log_of w) (part_skeletons w)
+  pub closed : ClosedComplete (log_of w) (part_skeletons w)
 
 -- Each list of the world w is a front of the same list of w'.
 pub record Extends (w w' : World) : Type 0 where
