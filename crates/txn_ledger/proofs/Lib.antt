@@ -1,0 +1,9 @@
+pub mod Append
+pub mod Bodies
+pub mod Chain
+pub mod Frames
+pub mod Gate
+pub mod Getting
+pub mod InFlight
+pub mod Settling
+pub mod Tied

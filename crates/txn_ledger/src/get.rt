@@ -1,0 +1,27 @@
+//! A record of a file.
+ghost use Rattle.std.specs.Prelude.{◌≡◌, ◌+◌, ◌≤◌, Err, take, drop, length, IfOk};
+ghost use Rattle.txn_base.specs.Disk.{Same, Since, CountsFaults};
+
+use crate::GetError;
+use crate::position::Position;
+use std::alloc::Global;
+use txn_base::{Bytes, Disk, FileId};
+
+/// The bytes at a position of the file, in one read.
+pub fn read_record<D: Disk>(
+    alloc: Global,
+    disk: &mut D,
+    file: FileId,
+    position: Position,
+) -> Result<Bytes, GetError>
+    requires within { D.tells → position.offset + position.len ≤ length (D.seen disk.old file) }
+    ensures found { D.tells → IfOk result (λ bytes. bytes.bytes ≡ take position.len (drop position.offset (D.seen disk.old file))) }
+    ensures seen { D.seen disk.new ≡ D.seen disk.old }
+    ensures images { Since D.moment D.image D.left_since Same disk.old disk.new }
+    ensures cause { CountsFaults file.part (D.faults disk.old) (D.faults disk.new) (D.part_faults disk.old) (D.part_faults disk.new) (result ≡ Err GetError.Fault) }
+{
+    let mut bytes = Vec::new(alloc);
+    bytes.resize(position.len as usize, 0)?;
+    disk.read(file, position.offset, &mut bytes)?;
+    Ok(Bytes::from_vec(bytes))
+}

@@ -1,0 +1,183 @@
+//! The ledger of one file.
+ghost use Rattle.std.specs.Prelude.{◌≡◌, ℕ, [], Err, IfOk, length};
+ghost use Rattle.txn_base.specs.Content.{settled, Backed};
+ghost use Rattle.txn_base.specs.Disk.{Elsewhere, Changes, Since, CountsFaults};
+ghost use Rattle.txn_base.specs.Frames.{IsDamagedAt, frames};
+ghost use Rattle.txn_ledger.specs.Found.{KeepsList};
+ghost use Rattle.txn_ledger.specs.Ledger.{StandsIn};
+
+use crate::encode::{add_positions, encode};
+use crate::get::read_record;
+use crate::position::Position;
+use crate::state::State;
+use crate::write::{find_out, write_batch};
+use crate::{GetError, OpenError, RecordLog, Settled};
+use std::alloc::{AllocError, Global};
+use std::marker::Model;
+use std::sync::ledger;
+use txn_base::{Bytes, ContentCarrier, Disk, Failed, FileId, Steps};
+
+/// A list of records in one file. At run time it keeps where each record stands, and none of them.
+#[derive(Drop)]
+pub struct Ledger {
+    file: FileId,
+
+    /// Where the settled frames end.
+    end: u64,
+
+    /// The length of the frame in flight.
+    sent: u64,
+
+    /// How many records are settled.
+    count: usize,
+
+    state: State,
+
+    /// Where the records stand, those in flight too.
+    positions: Vec<Position>,
+
+    /// The frame that is written, but for its gate byte.
+    buffer: Bytes,
+
+    /// How many more positions were reserved.
+    spare: usize,
+
+    /// How long a frame was reserved.
+    room: usize,
+
+    carrier: ContentCarrier,
+}
+
+impl Model for Ledger {
+    ghost use Rattle.txn_ledger.specs.Ledger.{Shown};
+
+    ghost Value = { Shown };
+
+    ghost use Rattle.txn_ledger.specs.Tied.{Tied};
+
+    ghost view = { λ l. record { content = l.carrier.content; spare = l.spare; room = l.room } };
+
+    ghost invariant = { Tied };
+}
+
+impl Ledger {
+    /// The ledger of a file that stands for no batches. It reads nothing.
+    pub fn empty(alloc: Global, file: FileId) -> Ledger
+        ensures { result.content ≡ record { key = file; batches = []; standing = settled } }
+    {
+        Ledger {
+            file,
+            end: 0,
+            sent: 0,
+            count: 0,
+            state: State::Settled,
+            positions: Vec::new(alloc),
+            buffer: Bytes::new(alloc),
+            spare: 0,
+            room: 0,
+            carrier: ContentCarrier::empty(file),
+        }
+    }
+}
+
+impl RecordLog for Ledger {
+    ghost use Rattle.txn_ledger.specs.Ledger.{IsFile, StandsIn, BeginsIn};
+    ghost use Rattle.txn_ledger.specs.LedgerLaws as laws;
+
+    ghost content = { λ l. l.content };
+
+    ghost spare = { λ l. l.spare };
+
+    ghost room = { λ l. l.room };
+
+    ghost mine = { IsFile };
+
+    ghost stands = { StandsIn };
+
+    ghost begins = { BeginsIn };
+
+    ghost local = { laws.local };
+
+    ghost stands_one = { laws.one_list };
+
+    ghost stands_begins = { laws.begins };
+
+    ghost one_part = { laws.one_part };
+
+    fn len(&self) -> u64 {
+        self.count as u64
+    }
+
+    fn is_settled(&self) -> bool {
+        self.state == State::Settled
+    }
+
+    fn reserve(&mut self, count: usize, bytes: usize) -> Result<(), AllocError> {
+        if self.room < bytes {
+            self.buffer.clear();
+            self.buffer.reserve(bytes)?;
+            self.room = bytes;
+        }
+        if self.spare < count {
+            self.positions.reserve(count)?;
+            self.spare = count;
+        }
+        Ok(())
+    }
+
+    fn append<D: Disk>(&mut self, disk: &mut D, batch: &[Bytes]) -> Result<(), Failed> {
+        encode(&mut self.buffer, batch);
+        add_positions(&mut self.positions, self.end + 5, batch);
+        self.spare -= batch.len();
+        match write_batch(
+            disk,
+            &self.carrier,
+            self.file,
+            self.end,
+            batch,
+            self.buffer.as_slice(),
+        ) {
+            Ok(()) => {
+                self.carrier.push(batch);
+                self.end += self.buffer.len() as u64 + 1;
+                self.count = self.positions.len();
+                Ok(())
+            }
+            Err(failed) => {
+                self.carrier.begin(batch);
+                self.sent = self.buffer.len() as u64 + 1;
+                self.state = State::InFlight;
+                Err(failed)
+            }
+        }
+    }
+
+    fn settle<D: Disk>(&mut self, disk: &mut D) -> Result<Settled, Failed> {
+        match find_out(disk, &self.carrier, self.file, self.end, self.sent)? {
+            Settled::Kept => {
+                self.carrier.settle_kept();
+                self.end += self.sent;
+                self.count = self.positions.len();
+                self.state = State::Settled;
+                Ok(Settled::Kept)
+            }
+            Settled::Dropped => {
+                self.carrier.settle_dropped();
+                self.positions.truncate(self.count);
+                self.state = State::Settled;
+                Ok(Settled::Dropped)
+            }
+        }
+    }
+
+    fn get<D: Disk, L: ledger::Ledger>(
+        &self,
+        alloc: Global,
+        disk: &mut D,
+        place: u64,
+        steps: &mut Steps<L>,
+    ) -> Result<Bytes, GetError> {
+        steps.tick();
+        read_record(alloc, disk, self.file, self.positions[place as usize])
+    }
+}

@@ -1,0 +1,9 @@
+//! How a ledger stands.
+
+/// Settled, with a batch in flight, or only looked at.
+#[derive(Clone, Copy, Debug, PartialEq, Eq)]
+pub enum State {
+    Settled,
+    InFlight,
+    LookedAt,
+}
