@@ -1,0 +1,17 @@
+//! The laws of the grammar, each as the contract of a call that does nothing.
+ghost use Rattle.txn_records.specs.Topics.{TopicRecordsDecode, TopicRecordsAreOne, TopicRecordsReadBack};
+
+/// The entry that is read off a topic record's bytes is the one that it is the record of.
+pub fn topic_records_decode()
+    ensures { TopicRecordsDecode }
+{}
+
+/// A topic's record stands for one entry.
+pub fn topic_records_are_one()
+    ensures { TopicRecordsAreOne }
+{}
+
+/// The record of a topic's entry is read as that entry.
+pub fn topic_records_read_back()
+    ensures { TopicRecordsReadBack }
+{}
