@@ -1,0 +1,5 @@
+pub mod Forms
+pub mod Lines
+pub mod Replies
+pub mod Short
+pub mod Values

@@ -1,0 +1,80 @@
+//! The request of a line.
+ghost use Rattle.std.specs.Prelude.{◌≡◌};
+ghost use Rattle.serde_json.specs.View.{view};
+ghost use Rattle.txn_wire.specs.Lines.{Gives, form_of, request_of_data, request_of};
+
+use crate::error::WireError;
+use crate::forms::{
+    ack_request, ack_upto_request, add_request, bare_request, new_request, only_txn,
+    publish_request, read_of_value, receive_request, redeliver_request,
+};
+use crate::values::text_at;
+use serde_json::Value;
+use std::alloc::Global;
+use txn_base::Request;
+
+/// The request that a line is. `BadLine` exactly where it is none.
+#[tactic(auto, unfolding(crate::specs::Lines::request_of))]
+pub fn read_request(alloc: Global, line: &[u8]) -> Result<Request, WireError>
+    ensures { Gives (λ r. r) result (request_of line.now) }
+{
+    match Value::from_slice(alloc, line) {
+        Ok(value) => request_of_value(alloc, &value),
+        Err(e) => {
+            if e.is_memory() {
+                Err(WireError::NoMemory)
+            } else {
+                Err(WireError::BadLine)
+            }
+        }
+    }
+}
+
+#[tactic(auto, unfolding(crate::specs::Lines::request_of_data))]
+fn request_of_value(alloc: Global, value: &Value) -> Result<Request, WireError>
+    ensures { Gives (λ r. r) result (request_of_data (view value.now)) }
+{
+    match text_at(value, "do") {
+        Some(name) => request_of_form(alloc, name, value),
+        None => Err(WireError::BadLine),
+    }
+}
+
+// A table of the forms, a line for each.
+#[tactic(auto, unfolding(crate::specs::Lines::form_of))]
+fn request_of_form(alloc: Global, name: &str, value: &Value) -> Result<Request, WireError>
+    ensures { Gives (λ r. r) result (form_of name.now (view value.now)) }
+{
+    if name == "new" {
+        new_request(value)
+    } else if name == "add" {
+        add_request(alloc, value)
+    } else if name == "publish" {
+        publish_request(alloc, value)
+    } else if name == "ack" {
+        ack_request(alloc, value)
+    } else if name == "ack_upto" {
+        ack_upto_request(alloc, value)
+    } else if name == "commit" {
+        let txn = only_txn(value)?;
+        Ok(Request::Commit { txn })
+    } else if name == "abort" {
+        let txn = only_txn(value)?;
+        Ok(Request::Abort { txn })
+    } else if name == "status" {
+        let txn = only_txn(value)?;
+        Ok(Request::Status { txn })
+    } else if name == "read" {
+        read_of_value(alloc, value)
+    } else if name == "receive" {
+        receive_request(alloc, value)
+    } else if name == "redeliver" {
+        redeliver_request(alloc, value)
+    } else if name == "tick" {
+        bare_request(Request::Tick, value)
+    } else if name == "stop" {
+        bare_request(Request::Stop, value)
+    } else {
+        Err(WireError::BadLine)
+    }
+}
