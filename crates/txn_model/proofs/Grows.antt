@@ -1,5 +1,5 @@
 -- Whatever a line is told, each list of the world afterwards begins with what it was.
-use Rattle.std.proofs.Common.{◌≡◌, ◌⊎◌, inl, inr, ℕ, ◌==◌, eqb-true, Bool, true, false, if◌then◌else◌, List, [], ◌∷◌, ◌++◌, Some, None, refl, sym, ap, ◌∙◌, subst, append_assoc}
+use Rattle.std.proofs.Common.{◌≡◌, ◌⊎◌, inl, inr, ℕ, ◌==◌, eqb-true, Bool, true, false, if◌then◌else◌, List, [], ◌∷◌, ◌++◌, ◌+◌, length, drop, Some, None, refl, sym, ap, ◌∙◌, subst, append_assoc}
 use Rattle.std.proofs.lemmas.List.{append-nil}
 use Rattle.std.specs.Prelude.{Option, MatchBool, MatchOption}
 use mathlib.Core.List.{IsPrefix}
@@ -17,6 +17,10 @@ use Rattle.txn_model.specs.Words.{list_at, with_list, append_at}
 use Rattle.txn_model.specs.Coord.{parts_of}
 use Rattle.txn_model.specs.World.{Extends, Flights, followed, kept, log_of}
 use Rattle.txn_model.specs.Table.{TableState, at_moment, Batch, nothing, in_coord, in_topic, in_sub, world_with, settled, marked, marker_batch, rebuilt, resolved, is_fenced, decision_batch, closing_batch}
+use Rattle.txn_base.specs.Names.{is_sub}
+use Rattle.txn_model.specs.Shape.{is_topic}
+use Rattle.txn_model.specs.Opening.{names_with, lists_for, world_named}
+use Rattle.txn_model.proofs.Shapes.{names_grow}
 use Rattle.txn_model.specs.Successes.{Success, success_of}
 use Rattle.txn_model.specs.Drive.{Rebuilds, RebuildsAll, StaysFenced, RefusedAt, MarksAll, StopsAt, recovery_fault, recovery_memory, marker_memory, marker_fault, StopsWithin, Drives, already, closes, close_fault, stops}
 use Rattle.txn_model.specs.Answers.{uses, AppendFails, Fulfils, Ends, Succeeds, Answers, early, unrecovered, unread, late, granted, no_memory, no_memory_later, tick_target, tick_reply, reads_clock, moved}
@@ -74,11 +78,24 @@ extends_both a b c f g =
       subs = λ p. both (list_at a.subs p) (list_at b.subs p) (list_at c.subs p) (f.subs p) (g.subs p);
     }
 
-batch_grows : (b : Batch) (w : World) → Extends w (world_with b w)
+pub batch_grows : (b : Batch) (w : World) → Extends w (world_with b w)
 batch_grows nothing w = extends_same w
 batch_grows (in_coord e) w = record { names = same w.names; coord = then_more w.coord (e ∷ []); topics = λ p. same (list_at w.topics p); subs = λ p. same (list_at w.subs p) }
 batch_grows (in_topic q es) w = record { names = same w.names; coord = same w.coord; topics = λ p. append_grows w.topics q es p; subs = λ p. same (list_at w.subs p) }
 batch_grows (in_sub q e) w = record { names = same w.names; coord = same w.coord; topics = λ p. same (list_at w.topics p); subs = λ p. append_grows w.subs q (e ∷ []) p }
+
+append_within : {E : Type 0} (xs ys : List (ℕ × List E)) (q : ℕ) → IsPrefix (list_at xs q) (list_at (xs ++ ys) q)
+append_within [] ys q = (list_at ys q, refl)
+append_within (l ∷ xs) ys q = either (l.0 == q) l.1 l.1 (list_at xs q) (list_at (xs ++ ys) q) (same l.1) (append_within xs ys q)
+
+pub named_grows : (w : World) (words : List (List ℕ)) → Extends w (world_named w (names_with w.names words))
+named_grows w words =
+    record {
+      names = names_grow w.names words;
+      coord = same w.coord;
+      topics = λ p. append_within w.topics (lists_for is_topic (length w.names + 1) (drop (length w.names) (names_with w.names words))) p;
+      subs = λ p. append_within w.subs (lists_for is_sub (length w.names + 1) (drop (length w.names) (names_with w.names words))) p;
+    }
 
 -- what a stop leaves extends what stood
 pub kept_grows : (w : World) (f : Flights) (stays : ℕ → Bool) → Extends w (kept w f stays)

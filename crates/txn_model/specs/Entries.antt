@@ -1,5 +1,6 @@
 -- A topic's entries and messages, by named parts.
-use Rattle.std.specs.Prelude.{ℕ, Bool, true, false, List, [], Option, Some, None}
+use Rattle.std.specs.Prelude.{ℕ, suc, Bool, true, false, List, [], ◌∷◌, Option, Some, None}
+use Rattle.std.specs.List.{list_all}
 use Rattle.txn_base.specs.Bytes.{only_bytes}
 use Rattle.txn_base.specs.declared.txn.TxnId.{TxnId}
 use Rattle.txn_base.specs.declared.messages.Message.{Message}
@@ -17,6 +18,10 @@ abbrev pub is_plain : TopicEntry → Bool
 is_plain (topic.Plain body) = true
 is_plain _ = false
 
+-- Each of these is a plain message.
+abbrev pub are_plain : List TopicEntry → Bool
+are_plain es = list_all is_plain es
+
 -- The transaction of a message, which is none for a plain one and for a marker.
 abbrev pub inside_of : TopicEntry → Option TxnId
 inside_of (topic.Opened x body) = Some x
@@ -33,3 +38,8 @@ message_at k body = record { place = k; body = body }
 
 abbrev pub message_of : ℕ → TopicEntry → Message
 message_of k e = message_at k (body_of e)
+
+-- From place k on, the messages of these entries.
+abbrev pub messages_from : ℕ → List TopicEntry → List Message
+messages_from k [] = []
+messages_from k (e ∷ es) = message_of k e ∷ messages_from (suc k) es

@@ -1,4 +1,5 @@
 pub mod Words
+pub mod Cut
 pub mod Skeletons
 pub mod Entries
 pub mod Names
@@ -14,6 +15,7 @@ pub mod Delivery
 pub mod World
 pub mod Table
 pub mod Shape
+pub mod Sound
 pub mod Requests
 pub mod EarlyRows
 pub mod LateRows

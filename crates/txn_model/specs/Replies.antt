@@ -1,6 +1,5 @@
 -- The replies to the lines of an input.
-use Rattle.std.specs.Prelude.{◌≡◌, ◌⊎◌, ℕ, ◌==◌, ◌||◌, ◌≤◌, nat_lt, if◌then◌else◌, List, [], ◌∷◌, ◌++◌, length, count_by, Bool, true, false, Option, Some, None, MatchBool}
-use Rattle.std.specs.List.{list_all}
+use Rattle.std.specs.Prelude.{◌≡◌, ◌⊎◌, ℕ, ◌≤◌, nat_lt, if◌then◌else◌, List, [], ◌∷◌, ◌++◌, length, count_by, Bool, true, false, Option, Some, None, MatchBool}
 use Rattle.txn_base.specs.Outside.{TellsMoment, Rose}
 use Rattle.txn_base.specs.declared.limits.Limits.{Limits}
 use Rattle.txn_base.specs.declared.request.Request.{Request}
@@ -10,6 +9,7 @@ use Rattle.txn_base.specs.declared.reply.Refusal.TheVariants as no
 use Rattle.txn_base.specs.declared.reply.Stuck.{Stuck}
 use Rattle.txn_base.specs.declared.reply.Why.{Why}
 use Rattle.txn_base.specs.declared.reply.Why.TheVariants as why
+use Rattle.txn_model.specs.Cut.{is_blank}
 use Rattle.txn_model.specs.Table.{TableState}
 use Rattle.txn_model.specs.Answers.{AnswersAt, reads_clock}
 
@@ -35,10 +35,6 @@ pub data Kind : Type 0 where
   too_long : Kind
   blank : Kind
   form : Option Request → Kind
-
--- The line has nothing but spaces, tabs and carriage returns.
-abbrev pub is_blank : List ℕ → Bool
-is_blank line = list_all (λ b. b == 32 || b == 9 || b == 13) line
 
 -- What a line is, where `request_of` gives the request of a form, and a line may have so many bytes.
 abbrev pub kind_of : (List ℕ → Option Request) → Limits → List ℕ → Kind

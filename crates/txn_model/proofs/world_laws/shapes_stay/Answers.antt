@@ -1,5 +1,5 @@
 use Rattle.txn_model.proofs.Shapes.{shaped_with, shaped_kept, shaped_words}
-use Rattle.txn_model.proofs.laws.shapes_stay.Goals as goal
+use Rattle.txn_model.proofs.world_laws.shapes_stay.Goals as goal
 
 pub returns-clause-batch : goal.returns-clause-batch
 returns-clause-batch c = shaped_with

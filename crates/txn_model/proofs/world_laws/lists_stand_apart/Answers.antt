@@ -1,7 +1,7 @@
 use Rattle.std.proofs.Common.{◌≡◌, true, sym, subst}
 use Rattle.txn_model.specs.Words.{has}
 use Rattle.txn_model.proofs.Lists.{at_append, at_followed}
-use Rattle.txn_model.proofs.laws.lists_stand_apart.Goals as goal
+use Rattle.txn_model.proofs.world_laws.lists_stand_apart.Goals as goal
 
 pub returns-clause-topics : goal.returns-clause-topics
 returns-clause-topics c = at_append
