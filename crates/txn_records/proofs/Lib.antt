@@ -1,2 +1,3 @@
+pub mod Coords
 pub mod Numbers
 pub mod Topics

@@ -1,7 +1,7 @@
 -- The bytes of numbers and of transactions.
-use Rattle.std.proofs.Common.{◌≡◌, ℕ, ◌+◌, ◌-◌, ◌<◌, ◌≤◌, ◌^◌, List, ◌∷◌, ◌++◌, length, take, drop, get_or, refl, sym, ap, ◌∙◌, arith, inl, inr}
+use Rattle.std.proofs.Common.{◌≡◌, ℕ, ◌+◌, ◌-◌, ◌<◌, ◌≤◌, ◌^◌, List, [], ◌∷◌, ◌++◌, length, take, drop, get_or, refl, sym, ap, ◌∙◌, arith, inl, inr}
 use Rattle.std.proofs.lemmas.Bool.{cases_lt}
-use Rattle.std.proofs.lemmas.List.{append_assoc, get_or-take, get_or-drop, get_or_past, length-take-le, length-drop, drop-drop, take-append-drop, take_all}
+use Rattle.std.proofs.lemmas.List.{append_assoc, get_or-take, get_or-drop, get_or_past, length-take-le, length-drop, drop-drop, take-append-drop, take_all, append-nil}
 use Rattle.std.proofs.lemmas.Nat.{be_bytes_2, be_bytes_4, be_bytes_8}
 use Rattle.std.specs.Int.{w16, w32, w64, from_be_bytes}
 use Rattle.byteorder.specs.Endian.{big_bytes, big_number}
@@ -66,3 +66,20 @@ txn_taken xs most least long small is_most is_least =
     ∙ ap (λ (l : List ℕ). txn_bytes (txn_at_front xs) ++ l) (sym (taken_rest 16 xs))
     ∙ ap (λ (m : ℕ). (big_bytes 8 m ++ big_bytes 8 (big_number 8 (drop 8 xs))) ++ take (length xs - 16) (drop 16 xs)) (sym is_most)
     ∙ ap (λ (m : ℕ). (big_bytes 8 most ++ big_bytes 8 m) ++ take (length xs - 16) (drop 16 xs)) (sym same)
+
+-- a number that was written, read
+pub number_read : (n x : ℕ) → x < 256 ^ n → big_number n (big_bytes n x) ≡ x
+number_read n x fits = ap (big_number n) (sym (append-nil (big_bytes n x))) ∙ big_number-reads_back n x [] fits
+
+-- a number that was read, written again
+pub word_whole : (xs : List ℕ) → length xs ≡ 8 → ((i : ℕ) → get_or xs i 0 < 256) → xs ≡ big_bytes 8 (big_number 8 xs)
+word_whole xs whole small = sym (word_again xs (omega arith) small ∙ take_all 8 xs (omega arith))
+
+pub half_whole : (xs : List ℕ) → length xs ≡ 4 → ((i : ℕ) → get_or xs i 0 < 256) → xs ≡ big_bytes 4 (big_number 4 xs)
+half_whole xs whole small =
+    let same : big_number 4 xs ≡ from_be_bytes w32 xs = omega arith in
+    sym (be_bytes_4 xs (big_number 4 xs) whole small same)
+
+-- a number of 32 bits has bytes of its own
+pub half_one : (x y : ℕ) → x < 2 ^ 32 → y < 2 ^ 32 → big_bytes 4 x ≡ big_bytes 4 y → x ≡ y
+half_one x y fits small e = sym (number_read 4 x (omega (arith, fits))) ∙ ap (big_number 4) e ∙ number_read 4 y (omega (arith, small))

@@ -1,8 +1,9 @@
 //! The fields of records: numbers of 16, 32 and 64 bits and transactions, big-endian.
-ghost use Rattle.std.specs.Prelude.{◌≡◌, ◌<◌, ◌≤◌, ◌+◌, ◌++◌, ℕ, List, [], ◌∷◌, length, drop, IfSome, IfNone};
+ghost use Rattle.std.specs.Prelude.{◌≡◌, ◌<◌, ◌≤◌, ◌+◌, ◌^◌, ◌++◌, ℕ, List, [], ◌∷◌, length, drop, IfSome, IfNone};
 ghost use Rattle.byteorder.specs.Endian.{big_bytes};
+ghost use Rattle.txn_base.specs.declared.txn.TxnId.{TxnId};
 ghost use Rattle.txn_base.specs.Room.{capacity};
-ghost use Rattle.txn_base.specs.Records.{IsTxnId, txn_bytes};
+ghost use Rattle.txn_base.specs.Records.{IsTxnId, IsWord, txn_bytes};
 
 use byteorder::{BigEndian, ByteOrder};
 use txn_base::{Bytes, TxnId};
@@ -16,6 +17,18 @@ pub fn put_u64(out: &mut Bytes, n: u64)
 {
     let mut field = [0; 8];
     BigEndian::write_u64(&mut field, n);
+    out.put(&field);
+}
+
+/// Adds a number of 32 bits into the free room.
+pub fn put_u32(out: &mut Bytes, n: u32)
+    requires { 4 ≤ out.old.room }
+    ensures bytes { out.new.bytes ≡ out.old.bytes ++ big_bytes 4 n }
+    ensures room { out.old.room ≤ out.new.room + 4 }
+    ensures kept { capacity out.old ≤ capacity out.new }
+{
+    let mut field = [0; 4];
+    BigEndian::write_u32(&mut field, n);
     out.put(&field);
 }
 
@@ -78,4 +91,38 @@ pub fn take_txn(bytes: &[u8]) -> Option<(TxnId, &[u8])>
     let most = BigEndian::read_u64(bytes);
     let least = BigEndian::read_u64(&bytes[8..]);
     Some((TxnId { most, least }, &bytes[16..]))
+}
+
+/// The transaction that these bytes are.
+pub fn only_txn(bytes: &[u8]) -> Option<TxnId>
+    ensures some { IfSome result (λ txn. (bytes.now ≡ txn_bytes txn) × IsTxnId txn) }
+    ensures none { IfNone result ((txn : TxnId) → bytes.now ≡ txn_bytes txn → ⊥) }
+{
+    let (txn, after) = take_txn(bytes)?;
+    if after.len() > 0 {
+        return None;
+    }
+    Some(txn)
+}
+
+/// The number of 64 bits that these bytes are.
+pub fn only_u64(bytes: &[u8]) -> Option<u64>
+    ensures some { IfSome result (λ n. (bytes.now ≡ big_bytes 8 n) × IsWord n) }
+    ensures none { IfNone result ((n : ℕ) → bytes.now ≡ big_bytes 8 n → ⊥) }
+{
+    if bytes.len() != 8 {
+        return None;
+    }
+    Some(BigEndian::read_u64(bytes))
+}
+
+/// The number of 32 bits that these bytes are.
+pub fn only_u32(bytes: &[u8]) -> Option<u32>
+    ensures some { IfSome result (λ n. (bytes.now ≡ big_bytes 4 n) × (n < 2 ^ 32)) }
+    ensures none { IfNone result ((n : ℕ) → bytes.now ≡ big_bytes 4 n → ⊥) }
+{
+    if bytes.len() != 4 {
+        return None;
+    }
+    Some(BigEndian::read_u32(bytes))
 }

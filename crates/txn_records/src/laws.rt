@@ -1,4 +1,5 @@
 //! The laws of the grammar, each as the contract of a call that does nothing.
+ghost use Rattle.txn_records.specs.Coords.{CoordRecordsDecode, CoordRecordsAreOne, CoordRecordsReadBack};
 ghost use Rattle.txn_records.specs.Topics.{TopicRecordsDecode, TopicRecordsAreOne, TopicRecordsReadBack};
 
 /// The entry that is read off a topic record's bytes is the one that it is the record of.
@@ -14,4 +15,19 @@ pub fn topic_records_are_one()
 /// The record of a topic's entry is read as that entry.
 pub fn topic_records_read_back()
     ensures { TopicRecordsReadBack }
+{}
+
+/// The entry that is read off the bytes of a record of the coordinator's log is the one that it is the record of.
+pub fn coord_records_decode()
+    ensures { CoordRecordsDecode }
+{}
+
+/// A record of the coordinator's log stands for one entry.
+pub fn coord_records_are_one()
+    ensures { CoordRecordsAreOne }
+{}
+
+/// The record of a coordinator's entry is read as that entry.
+pub fn coord_records_read_back()
+    ensures { CoordRecordsReadBack }
 {}

@@ -1,13 +1,18 @@
 //! The records of the five ledgers as bytes: every writer and every reader of their grammar.
 #![tactic(auto)]
 
+mod coord;
 mod error;
 mod fields;
 mod laws;
 mod topic;
 mod topic_write;
 
+pub use coord::{put_coord, read_coord, write_coord};
 pub use error::RecordError;
-pub use laws::{topic_records_are_one, topic_records_decode, topic_records_read_back};
+pub use laws::{
+    coord_records_are_one, coord_records_decode, coord_records_read_back, topic_records_are_one,
+    topic_records_decode, topic_records_read_back,
+};
 pub use topic::{read_topic, topic_body, topic_skeleton_of};
 pub use topic_write::{marker_record, opened_record, plain_record, put_marker, write_topic};

@@ -4,12 +4,11 @@ ghost use Rattle.txn_base.specs.declared.entry.TopicEntry.{TopicEntry};
 ghost use Rattle.txn_base.specs.Bytes.{only_bytes};
 ghost use Rattle.txn_base.specs.Decoded.{topic_entry_of};
 ghost use Rattle.txn_base.specs.Entries.{bare};
-ghost use Rattle.txn_base.specs.Records.{IsBody, IsTxnId, IsTopicRecord, txn_bytes};
-ghost use Rattle.txn_base.specs.declared.txn.TxnId.{TxnId};
+ghost use Rattle.txn_base.specs.Records.{IsBody, IsTopicRecord};
 ghost use Rattle.txn_records.specs.Topics.{IsMessage, message_body, topic_skeleton, entry_in_place};
 
 use crate::error::RecordError;
-use crate::fields::{take_head, take_txn};
+use crate::fields::{only_txn, take_head, take_txn};
 use std::alloc::Global;
 use txn_base::{Bytes, CoreEntry, Decision, TopicEntry, TxnId};
 
@@ -51,18 +50,6 @@ fn opened_in_place(rest: &[u8]) -> Option<InPlace<'_>>
     Some(InPlace::Opened { txn, body })
 }
 
-/// The transaction of a marker, which is all that its record has.
-fn marked_txn(rest: &[u8]) -> Option<TxnId>
-    ensures some { IfSome result (λ txn. (rest.now ≡ txn_bytes txn) × IsTxnId txn) }
-    ensures none { IfNone result ((txn : TxnId) → rest.now ≡ txn_bytes txn → ⊥) }
-{
-    let (txn, after) = take_txn(rest)?;
-    if after.len() > 0 {
-        return None;
-    }
-    Some(txn)
-}
-
 /// The entry of a record, with its body in place. None where the bytes aren't in the grammar.
 fn read_in_place(bytes: &[u8]) -> Option<InPlace<'_>>
     ensures some { IfSome result (λ found. IsTopicRecord 1 bytes.now (entry_in_place found)) }
@@ -73,10 +60,10 @@ fn read_in_place(bytes: &[u8]) -> Option<InPlace<'_>>
         1 => plain_in_place(rest),
         2 => opened_in_place(rest),
         3 => Some(InPlace::Commit {
-            txn: marked_txn(rest)?,
+            txn: only_txn(rest)?,
         }),
         4 => Some(InPlace::Abort {
-            txn: marked_txn(rest)?,
+            txn: only_txn(rest)?,
         }),
         _ => None,
     }
