@@ -1,3 +1,4 @@
+pub mod Catalog
 pub mod Coords
 pub mod Numbers
 pub mod Topics

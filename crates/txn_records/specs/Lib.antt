@@ -1,2 +1,3 @@
+pub mod Catalog
 pub mod Coords
 pub mod Topics

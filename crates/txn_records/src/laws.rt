@@ -1,4 +1,5 @@
 //! The laws of the grammar, each as the contract of a call that does nothing.
+ghost use Rattle.txn_records.specs.Catalog.{NameRecordsDecode, NameRecordsAreOne, NameRecordsReadBack};
 ghost use Rattle.txn_records.specs.Coords.{CoordRecordsDecode, CoordRecordsAreOne, CoordRecordsReadBack};
 ghost use Rattle.txn_records.specs.Topics.{TopicRecordsDecode, TopicRecordsAreOne, TopicRecordsReadBack};
 
@@ -30,4 +31,19 @@ pub fn coord_records_are_one()
 /// The record of a coordinator's entry is read as that entry.
 pub fn coord_records_read_back()
     ensures { CoordRecordsReadBack }
+{}
+
+/// The name that is read off the bytes of a record of the catalog is the one that it is the record of.
+pub fn name_records_decode()
+    ensures { NameRecordsDecode }
+{}
+
+/// A record of the catalog stands for one name.
+pub fn name_records_are_one()
+    ensures { NameRecordsAreOne }
+{}
+
+/// The record of a name is read as that name.
+pub fn name_records_read_back()
+    ensures { NameRecordsReadBack }
 {}

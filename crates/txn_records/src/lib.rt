@@ -5,14 +5,17 @@ mod coord;
 mod error;
 mod fields;
 mod laws;
+mod name;
 mod topic;
 mod topic_write;
 
 pub use coord::{put_coord, read_coord, write_coord};
 pub use error::RecordError;
 pub use laws::{
-    coord_records_are_one, coord_records_decode, coord_records_read_back, topic_records_are_one,
-    topic_records_decode, topic_records_read_back,
+    coord_records_are_one, coord_records_decode, coord_records_read_back, name_records_are_one,
+    name_records_decode, name_records_read_back, topic_records_are_one, topic_records_decode,
+    topic_records_read_back,
 };
+pub use name::{is_name, read_name, write_name};
 pub use topic::{read_topic, topic_body, topic_skeleton_of};
 pub use topic_write::{marker_record, opened_record, plain_record, put_marker, write_topic};
