@@ -1,13 +1,12 @@
 -- A record stands at its position.
 use Rattle.std.proofs.Common.{◌≡◌, ◌⊎◌, inl, inr, ℕ, zero, suc, ◌+◌, ◌-◌, ◌<◌, ◌≤◌, List, [], ◌∷◌, ◌++◌, length, take, drop, get_or, refl, sym, ap, ◌∙◌, subst, arith, length-append}
-use Rattle.std.specs.Prelude.{All, Result, Ok, Err, IfOk}
+use Rattle.std.specs.Prelude.{Result, Ok, Err, IfOk}
 use Rattle.std.proofs.lemmas.Bool.{cases_lt}
 use Rattle.std.proofs.lemmas.List.{append_assoc, drop_at, take_at, get_or_append_left, get_or-append_right}
-use Rattle.std.proofs.lemmas.List.Elements.{All-head, All-tail}
 use Rattle.byteorder.specs.Endian.{big_bytes}
 use Rattle.byteorder.specs.Numbers.{length-bytes_high_first}
 use Rattle.txn_base.specs.Room.{Roomy}
-use Rattle.txn_base.specs.Frames.{Batch, Record, IsRecord, IsBatch, record_bytes, body_of, frame, frames, records}
+use Rattle.txn_base.specs.Frames.{Batch, Record, record_bytes, body_of, frame, frames, records}
 use Rattle.txn_base.specs.Content.{Standing, settled, in_flight, looked_at, with_flight}
 use Rattle.txn_ledger.specs.declared.position.Position.{Position}
 use Rattle.txn_ledger.specs.Positions.{positions_of, positions_in, record_at}

@@ -10,7 +10,7 @@ use Rattle.txn_ledger.specs.declared.position.Position.{Position}
 use Rattle.txn_ledger.specs.Positions.{positions_of, positions_in}
 use Rattle.txn_ledger.specs.declared.state.State.{State}
 use Rattle.txn_ledger.specs.declared.state.State.TheVariants.{Settled, InFlight}
-use Rattle.txn_ledger.specs.Tied.{TiedTo, IsSent, state_of}
+use Rattle.txn_ledger.specs.Tied.{TiedTo, IsScanned, IsSent, state_of}
 use Rattle.txn_ledger.proofs.Bodies.{positions-push, count_positions}
 use Rattle.txn_ledger.proofs.Frames.{frames-push, one_batch}
 
@@ -78,3 +78,12 @@ module _ (content : LedgerContent) (file : FileId) (end sent count : ℕ) (state
       on (in_flight batch) some are =
           ap (λ (l : List Position). take count l) (are ∙ positions-push content.batches batch end tied.ends)
           ∙ take_at (positions_in 0 content.batches) (positions_of (end + 5) batch) count (count_positions 0 content.batches ∙ sym tied.count_is)
+
+-- one frame more of a ledger that is being opened
+pub scanned_landed : (content : LedgerContent) (end : ℕ) (positions : List Position) → IsScanned content end positions → (batch : Batch) → IsBatch batch
+    → (next_positions : List Position) → next_positions ≡ positions ++ positions_of (end + 5) batch → (next : LedgerContent) → next ≡ landed content batch
+    → (next_end : ℕ) → next_end ≡ end + length (frame batch) → next_end ≤ 2 ^ 50 → IsScanned next next_end next_positions
+scanned_landed content end positions scanned batch is_batch next_positions more next is next_end ends bound = subst (λ (s : LedgerContent). IsScanned s next_end next_positions) (sym is) (record {
+  tied = tied_landed content content.key end 0 (length positions) Settled positions scanned.tied batch is_batch scanned.settled_is next_positions more (landed content batch) refl next_end (length next_positions) ends bound refl;
+  settled_is = refl;
+})

@@ -1,3 +1,4 @@
+pub mod Bodies
 pub mod Found
 pub mod Gate
 pub mod Ledger

@@ -38,3 +38,8 @@ pub record Tied (ledger : Inside) : Type 0 where
   pub tied : TiedTo ledger.carrier.content ledger.file ledger.end ledger.sent ledger.count ledger.state ledger.positions.items
   pub spare_fits : vec_len ledger.positions + ledger.spare ≤ vec_capacity ledger.positions
   pub room_fits : ledger.room ≤ capacity ledger.buffer
+
+-- The same of a ledger that is being opened, with nothing in flight.
+pub record IsScanned (content : LedgerContent) (end : ℕ) (positions : List Position) : Type 0 where
+  pub tied : TiedTo content content.key end 0 (length positions) Settled positions
+  pub settled_is : content.standing ≡ settled

@@ -7,7 +7,9 @@ ghost use Rattle.txn_ledger.specs.Found.{KeepsList};
 ghost use Rattle.txn_ledger.specs.Ledger.{StandsIn};
 
 use crate::encode::{add_positions, encode};
+use crate::found::Found;
 use crate::get::read_record;
+use crate::open::find;
 use crate::position::Position;
 use crate::state::State;
 use crate::write::{find_out, write_batch};
@@ -61,6 +63,45 @@ impl Model for Ledger {
 }
 
 impl Ledger {
+    /// Opens a file that a crash may have left, and cuts off what stands behind its last frame. An open gate
+    /// that begins no frame is damage.
+    pub fn open_file<D: Disk>(
+        alloc: Global,
+        disk: &mut D,
+        file: FileId,
+    ) -> Result<Ledger, OpenError>
+        ensures opened { IfOk result (λ ledger. (ledger.content.key ≡ file) × (ledger.content.standing ≡ settled)) }
+        ensures backed { IfOk result (λ ledger. Backed StandsIn (D.image disk.new) ledger.content) }
+
+        // As the file read at the call, it stands for these batches.
+        ensures told { D.tells → IfOk result (λ ledger. StandsIn file (D.seen disk.old) ledger.content.batches) }
+        ensures cut { D.tells → IfOk result (λ ledger. length (D.seen disk.new file) ≡ length (frames ledger.content.batches)) }
+        ensures damaged { (entry : ℕ) → result ≡ Err (OpenError.Damaged entry) → D.tells → IsDamagedAt (D.seen disk.old file) entry }
+
+        // Each image at any moment of the call stands for what an image at the call stood for.
+        ensures images { Since D.moment D.image D.left_since (Changes file KeepsList) disk.old disk.new }
+        ensures others { Elsewhere file (D.seen disk.old) (D.seen disk.new) }
+        ensures cause { CountsFaults file.part (D.faults disk.old) (D.faults disk.new) (D.part_faults disk.old) (D.part_faults disk.new) (result ≡ Err OpenError.Fault) }
+    {
+        let Found {
+            carrier,
+            end,
+            positions,
+        } = find(alloc, disk, file)?;
+        Ok(Ledger {
+            file,
+            end,
+            sent: 0,
+            count: positions.len(),
+            state: State::Settled,
+            positions,
+            buffer: Bytes::new(alloc),
+            spare: 0,
+            room: 0,
+            carrier,
+        })
+    }
+
     /// The ledger of a file that stands for no batches. It reads nothing.
     pub fn empty(alloc: Global, file: FileId) -> Ledger
         ensures { result.content ≡ record { key = file; batches = []; standing = settled } }

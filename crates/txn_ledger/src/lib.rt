@@ -3,13 +3,18 @@
 
 mod encode;
 mod error;
+mod found;
 mod frame;
 mod get;
 mod ledger;
 mod log;
+mod open;
+mod parse;
 mod position;
+mod scan;
 mod settle;
 mod state;
+mod window;
 mod write;
 
 pub use error::OpenError;

@@ -1,8 +1,8 @@
-use Rattle.std.proofs.Common.{◌≡◌, ℕ, ◌+◌, List, [], ◌∷◌, ◌++◌, length, drop, sym, ap, ◌∙◌, subst, arith, append_assoc}
+use Rattle.std.proofs.Common.{ℕ, ◌+◌, List, [], ◌∷◌, ◌++◌, drop, sym, ap, ◌∙◌, subst, arith, append_assoc}
 use Rattle.std.specs.Prelude.{All}
 use Rattle.std.proofs.lemmas.List.Elements.{All-head, All-tail}
 use Rattle.txn_base.specs.Bytes.{contents_of}
-use Rattle.txn_base.specs.Frames.{Record, Batch, IsRecord, body_of}
+use Rattle.txn_base.specs.Frames.{Batch, IsRecord}
 use Rattle.txn_ledger.specs.declared.position.Position.{Position}
 use Rattle.txn_ledger.specs.Positions.{positions_of}
 use Rattle.txn_ledger.proofs.Bodies.{item_next, body_next}

@@ -1,4 +1,4 @@
-use Rattle.std.proofs.Common.{◌≡◌, ◌≤◌, ◌++◌, length, drop}
+use Rattle.std.proofs.Common.{◌≡◌, ◌≤◌, ◌++◌, drop}
 use Rattle.std.specs.Prelude.{All}
 use Rattle.txn_base.specs.Bytes.{contents_of}
 use Rattle.txn_base.specs.Frames.{IsRecord, body_of, behind_gate}

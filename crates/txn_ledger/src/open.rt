@@ -1,0 +1,37 @@
+//! A file that a crash may have left is brought to its frames.
+ghost use Rattle.std.specs.Prelude.{◌≡◌, ℕ, Err, length, IfOk};
+ghost use Rattle.txn_base.specs.Content.{Backed};
+ghost use Rattle.txn_base.specs.Disk.{Elsewhere, Changes, Since, CountsFaults};
+ghost use Rattle.txn_base.specs.Frames.{IsDamagedAt, frames};
+ghost use Rattle.txn_ledger.specs.Found.{KeepsList};
+ghost use Rattle.txn_ledger.specs.Ledger.{StandsIn};
+ghost use Rattle.txn_ledger.specs.Tied.{IsScanned};
+
+use crate::OpenError;
+use crate::found::Found;
+use crate::scan::scan;
+use crate::settle::cut;
+use std::alloc::Global;
+use txn_base::{Disk, FileId};
+
+/// Reads the frames of a file, and cuts off what stands behind them.
+pub fn find<D: Disk>(alloc: Global, disk: &mut D, file: FileId) -> Result<Found, OpenError>
+    ensures key { IfOk result (λ found. found.carrier.content.key ≡ file) }
+    ensures scanned { IfOk result (λ found. IsScanned found.carrier.content found.end found.positions.items) }
+    ensures backed { IfOk result (λ found. Backed StandsIn (D.image disk.new) found.carrier.content) }
+    ensures told { D.tells → IfOk result (λ found. StandsIn file (D.seen disk.old) found.carrier.content.batches) }
+    ensures cut { D.tells → IfOk result (λ found. length (D.seen disk.new file) ≡ length (frames found.carrier.content.batches)) }
+    ensures damaged { (entry : ℕ) → result ≡ Err (OpenError.Damaged entry) → D.tells → IsDamagedAt (D.seen disk.old file) entry }
+    ensures images { Since D.moment D.image D.left_since (Changes file KeepsList) disk.old disk.new }
+    ensures others { Elsewhere file (D.seen disk.old) (D.seen disk.new) }
+    ensures cause { CountsFaults file.part (D.faults disk.old) (D.faults disk.new) (D.part_faults disk.old) (D.part_faults disk.new) (result ≡ Err OpenError.Fault) }
+{
+    disk.sync(file)?;
+    let size = disk.size(file)?;
+    let found = scan(alloc, disk, file, size)?;
+    if found.end == size {
+        return Ok(found);
+    }
+    cut(disk, file, found.end)?;
+    Ok(found)
+}
