@@ -5,7 +5,7 @@ use Rattle.txn_base.specs.Disk.{OldOrResized}
 use Rattle.txn_base.specs.Frames.{Batch, IsBatch, frame, frames, behind_gate, Stands}
 use Rattle.txn_base.specs.Content.{Standing, settled, in_flight, looked_at, IsInFlight, KeptOrNot, with_flight}
 use Rattle.txn_ledger.specs.Tied.{IsSent}
-use Rattle.txn_ledger.proofs.Gate.{shut_gate}
+use Rattle.txn_ledger.proofs.Behind.{shut_gate}
 use Rattle.txn_ledger.proofs.Frames.{frames-push, front_is, closed_of_stands}
 
 -- such a frame stands behind the end

@@ -11,8 +11,9 @@ use crate::found::Found;
 use crate::get::read_record;
 use crate::open::find;
 use crate::position::Position;
+use crate::settle::find_out;
 use crate::state::State;
-use crate::write::{find_out, write_batch};
+use crate::write::write_batch;
 use crate::{GetError, OpenError, RecordLog, Settled};
 use std::alloc::{AllocError, Global};
 use std::marker::Model;
@@ -170,14 +171,8 @@ impl RecordLog for Ledger {
         encode(&mut self.buffer, batch);
         add_positions(&mut self.positions, self.end + 5, batch);
         self.spare -= batch.len();
-        match write_batch(
-            disk,
-            &self.carrier,
-            self.file,
-            self.end,
-            batch,
-            self.buffer.as_slice(),
-        ) {
+        let tail = self.buffer.as_slice();
+        match write_batch(disk, &self.carrier, self.file, self.end, batch, tail) {
             Ok(()) => {
                 self.carrier.push(batch);
                 self.end += self.buffer.len() as u64 + 1;

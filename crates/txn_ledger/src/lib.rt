@@ -4,7 +4,7 @@
 mod encode;
 mod error;
 mod found;
-mod frame;
+mod gate;
 mod get;
 mod ledger;
 mod log;
@@ -13,6 +13,7 @@ mod parse;
 mod position;
 mod scan;
 mod settle;
+mod stage;
 mod state;
 mod window;
 mod write;

@@ -1,11 +1,17 @@
-//! What a failed append left behind the end.
-ghost use Rattle.std.specs.Prelude.{◌≡◌, ◌+◌, ◌^◌, ◌<◌, ◌≤◌, length, slice_index, IsTrue, IfOk, OnOk};
+//! What became of a batch whose append failed. The carrier tells the clauses which it is.
+ghost use Rattle.std.specs.Prelude.{◌≡◌, ◌+◌, ◌^◌, ◌<◌, ◌≤◌, Ok, length, slice_index, IsTrue, IfOk, OnOk, OnErr};
+ghost use Rattle.txn_base.specs.Content.{IsInFlight, Backed, Settles};
 ghost use Rattle.txn_base.specs.Disk.{Same, Elsewhere, Changes, OldOrResized, resized, Only, Since, HasPartCause};
+ghost use Rattle.txn_base.specs.Frames.{frames};
+ghost use Rattle.txn_ledger.specs.Ledger.{IsFile, StandsIn};
+ghost use Rattle.txn_ledger.specs.Log.{settled_as};
+ghost use Rattle.txn_ledger.specs.Tied.{IsSent};
 
-use txn_base::{Disk, Failed, FileId};
+use crate::Settled;
+use txn_base::{ContentCarrier, Disk, Failed, FileId};
 
 /// A frame of that many bytes stands behind an open gate.
-pub fn is_whole<D: Disk>(disk: &mut D, file: FileId, end: u64, sent: u64) -> Result<bool, Failed>
+fn is_whole<D: Disk>(disk: &mut D, file: FileId, end: u64, sent: u64) -> Result<bool, Failed>
     requires some { 1 ≤ sent }
     requires room { end + sent < 2 ^ 64 }
     ensures whole { D.tells → IfOk result (λ whole. IsTrue whole → (end + sent ≤ length (D.seen disk.old file)) × (slice_index (D.seen disk.old file) end ≡ 1)) }
@@ -34,4 +40,34 @@ pub fn cut<D: Disk>(disk: &mut D, file: FileId, end: u64) -> Result<(), Failed>
     disk.resize(file, end)?;
     disk.sync(file)?;
     Ok(())
+}
+
+/// Finds out what became of the batch in flight, and cuts off what is left of one that was dropped.
+pub fn find_out<D: Disk>(
+    disk: &mut D,
+    carrier: &ContentCarrier,
+    file: FileId,
+    end: u64,
+    sent: u64,
+) -> Result<Settled, Failed>
+    requires in_flight { IsInFlight carrier.now.content.standing }
+    requires file { file ≡ carrier.now.content.key }
+    requires ends { end ≡ length (frames carrier.now.content.batches) }
+    requires bound { end ≤ 2 ^ 50 }
+    requires sent { IsSent carrier.now.content.standing sent }
+    requires backed { Backed StandsIn (D.image disk.old) carrier.now.content }
+    ensures ok { IfOk result (λ settled. Backed StandsIn (D.image disk.new) (settled_as settled carrier.now.content)) }
+    ensures err { OnErr result (Backed StandsIn (D.image disk.new) carrier.now.content) }
+    ensures found { D.tells → IfOk result (λ settled. StandsIn carrier.now.content.key (D.seen disk.old) (settled_as settled carrier.now.content).batches) }
+    ensures bound { result ≡ Ok Settled.Kept → end + sent ≤ 2 ^ 50 }
+    ensures images { Since D.moment D.image D.left_since (Settles IsFile StandsIn carrier.now.content) disk.old disk.new }
+    ensures others { Elsewhere carrier.now.content.key (D.seen disk.old) (D.seen disk.new) }
+    ensures cause { HasPartCause carrier.now.content.key.part (D.faults disk.old) (D.faults disk.new) (D.part_faults disk.old) (D.part_faults disk.new) result }
+{
+    disk.sync(file)?;
+    if is_whole(disk, file, end, sent)? {
+        return Ok(Settled::Kept);
+    }
+    cut(disk, file, end)?;
+    Ok(Settled::Dropped)
 }

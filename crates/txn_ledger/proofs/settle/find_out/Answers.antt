@@ -8,7 +8,7 @@ use Rattle.txn_ledger.proofs.Bodies.{sent_small}
 use Rattle.txn_ledger.proofs.Chain.{same_on}
 use Rattle.txn_ledger.proofs.InFlight.{IsWhole}
 use Rattle.txn_ledger.proofs.Settling.{read_kept, read_dropped, kept_backed, cut_backed, cut_in_doubt, cut_settles}
-use Rattle.txn_ledger.proofs.write.find_out.Goals as goal
+use Rattle.txn_ledger.proofs.settle.find_out.Goals as goal
 
 pub is_whole-requires-clause-room : goal.is_whole-requires-clause-room
 is_whole-requires-clause-room g c = omega (arith, c.requires.bound, sent_small c.args.carrier.now.content.standing c.args.sent c.requires.in_flight c.requires.sent)
