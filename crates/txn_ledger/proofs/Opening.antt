@@ -6,15 +6,13 @@ use Rattle.txn_base.specs.Disk.{Files, Same, Changes, OldOrResized, Since}
 use Rattle.std.specs.Prelude.{All}
 use Rattle.byteorder.specs.Endian.{big_bytes}
 use Rattle.txn_base.specs.Frames.{Batch, IsBatch, IsDamagedAt, body_of, frame, frames, records, Stands}
-use Rattle.txn_base.specs.Content.{LedgerContent, Standing, settled, Backed, KeptOrNot}
-use Rattle.txn_base.proofs.Moments.{weaker, goes_on}
+use Rattle.txn_base.proofs.Moments.{goes_on}
 use Rattle.txn_base.proofs.Unique.{stands_one}
 use Rattle.txn_ledger.specs.Found.{KeepsList}
-use Rattle.txn_ledger.specs.Ledger.{StandsIn}
 use Rattle.txn_ledger.proofs.InFlight.{cut_stands}
 use Rattle.txn_ledger.proofs.Bodies.{frame_length}
 use Rattle.txn_ledger.proofs.Frames.{frames-push}
-use Rattle.txn_ledger.proofs.Parsed.{frame_found, frame_body}
+use Rattle.txn_ledger.proofs.Heads.{frame_found, frame_body}
 
 -- one frame more
 scanned : (x : List ℕ) (batches : List Batch) (batch : Batch) (end next : ℕ) (after : List ℕ) → end ≡ length (frames batches) → x ≡ frames batches ++ drop end x → drop end x ≡ frame batch ++ after → next ≡ end + length (frame batch)
@@ -44,30 +42,17 @@ module _ (x : List ℕ) (batches : List Batch) (end len : ℕ) (body : List ℕ)
     before = before;
   }
 
-module _ {D : Type 0} (moment : D → ℕ) (image : D → Files → Type 0) (left_since : D → ℕ → Files → Type 0) (file : FileId) (old mid : D) (looked : Since moment image left_since Same old mid) where
+-- the calls that look at a file, and then cut it behind the frames that it was seen to have
+module _ {D : Type 0} (moment : D → ℕ) (image : D → Files → Type 0) (left_since : D → ℕ → Files → Type 0) (file : FileId) (old mid new : D) (looked : Since moment image left_since Same old mid)
+    (batches : List Batch) (end : ℕ) (ends : end ≡ length (frames batches)) (at : (e : Files) → image mid e → Stands (e file) batches) (cutting : Since moment image left_since (Changes file (OldOrResized end)) mid new) where
   keeps : (d c : Files) → Same d c → Changes file KeepsList d c
   keeps d c same = record { here = λ batches stands. subst (λ (f : Files). Stands (f file) batches) (sym same) stands; others = λ other apart. ap (λ (f : Files). f other) same }
 
-  pub looked_keeps : Since moment image left_since (Changes file KeepsList) old mid
-  looked_keeps = weaker moment image left_since _ _ old mid (λ d c at same. keeps d c same) looked
-
-  -- what was read stands for the content's batches
-  module _ (content : LedgerContent) (is : file ≡ content.key) (is_settled : content.standing ≡ settled) (end : ℕ) (ends : end ≡ length (frames content.batches)) (at : (e : Files) → image mid e → Stands (e file) content.batches) where
-    backed : (c : Files) → Stands (c file) content.batches → KeptOrNot (StandsIn content.key c) content.batches content.standing
-    backed c stands = subst (λ (s : Standing). KeptOrNot (StandsIn content.key c) content.batches s) (sym is_settled) (subst (λ (f : FileId). Stands (c f) content.batches) is stands)
-
-    pub whole_backed : Backed StandsIn (image mid) content
-    whole_backed = record { each = λ c now. backed c (at c now) }
-
-    module _ (new : D) (cutting : Since moment image left_since (Changes file (OldOrResized end)) mid new) where
-      pub cut_keeps : Since moment image left_since (Changes file KeepsList) old new
-      cut_keeps = goes_on moment image left_since _ _ _ old mid new looked cutting (λ d c was same. keeps d c same)
-          (λ d e c was same now step. record {
-            here = λ batches stands.
-                let one : content.batches ≡ batches = stands_one (e file) content.batches batches (at e now) (subst (λ (f : Files). Stands (f file) batches) (sym same) stands) in
-                subst (λ (b : List Batch). Stands (c file) b) one (cut_stands content.batches end 0 ends (e file) (c file) (at e now) step.here);
-            others = λ other apart. step.others other apart ∙ ap (λ (f : Files). f other) same;
-          })
-
-      pub cut_leaves : Backed StandsIn (image new) content
-      cut_leaves = record { each = λ c now. let e = cutting.at_end c now in backed c (cut_stands content.batches end 0 ends (e.0 file) (c file) (at e.0 e.1) e.2.here) }
+  pub cut_keeps : Since moment image left_since (Changes file KeepsList) old new
+  cut_keeps = goes_on moment image left_since _ _ _ old mid new looked cutting (λ d c was same. keeps d c same)
+      (λ d e c was same now step. record {
+        here = λ others stands.
+            let one : batches ≡ others = stands_one (e file) batches others (at e now) (subst (λ (f : Files). Stands (f file) others) (sym same) stands) in
+            subst (λ (b : List Batch). Stands (c file) b) one (cut_stands batches end 0 ends (e file) (c file) (at e now) step.here);
+        others = λ other apart. step.others other apart ∙ ap (λ (f : Files). f other) same;
+      })

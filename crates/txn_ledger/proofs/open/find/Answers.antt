@@ -17,7 +17,7 @@ returns-in_err-cut-clause-images g c =
     let read : g.D.Disk.seen c.size.new.self c.args.file ≡ e c.args.file =
     ap (λ (f : Files). f c.args.file) (c.size.ensures.seen ∙ c.sync.ensures.seen) ∙ sym (c.in_ok-sync.ensures.durable s.0 s.1) ∙ ap (λ (f : Files). f c.args.file) (sym s.2) in
     subst (λ (x : List ℕ). Stands x content.batches) read (c.in_ok-found.ensures.told told)) in
-    cut_keeps _ _ _ c.args.file _ _ looked content (sym c.in_ok-found.ensures.key) c.in_ok-found.ensures.scanned.settled_is c.in_ok-found.found.end c.in_ok-found.ensures.scanned.tied.ends at _ c.cut.ensures.images
+    cut_keeps _ _ _ c.args.file _ _ _ looked content.batches c.in_ok-found.found.end c.in_ok-found.ensures.scanned.tied.ends at c.cut.ensures.images
 
 pub returns-clause-images : goal.returns-clause-images
 returns-clause-images g c =
@@ -30,4 +30,4 @@ returns-clause-images g c =
     let read : g.D.Disk.seen c.size.new.self c.args.file ≡ e c.args.file =
     ap (λ (f : Files). f c.args.file) (c.size.ensures.seen ∙ c.sync.ensures.seen) ∙ sym (c.in_ok-sync.ensures.durable s.0 s.1) ∙ ap (λ (f : Files). f c.args.file) (sym s.2) in
     subst (λ (x : List ℕ). Stands x content.batches) read (c.in_ok-found.ensures.told told)) in
-    cut_keeps _ _ _ c.args.file _ _ looked content (sym c.in_ok-found.ensures.key) c.in_ok-found.ensures.scanned.settled_is c.in_ok-found.found.end c.in_ok-found.ensures.scanned.tied.ends at _ c.cut.ensures.images
+    cut_keeps _ _ _ c.args.file _ _ _ looked content.batches c.in_ok-found.found.end c.in_ok-found.ensures.scanned.tied.ends at c.cut.ensures.images

@@ -1,6 +1,6 @@
 use Rattle.std.proofs.Common.{arith}
 use Rattle.std.proofs.lemmas.Bool.Decides.{nat_tests}
-use Rattle.txn_ledger.proofs.Parsed.{cut_more, cut_batch, cut_filled, cut_positions, none_full, none_next}
+use Rattle.txn_ledger.proofs.Cuts.{cut_more, cut_batch, cut_filled, cut_positions, none_full, none_next}
 use Rattle.txn_ledger.proofs.parse.add_records.Goals as goal
 
 pub returns-then-count-eq64-clause-none : goal.returns-then-count-eq64-clause-none

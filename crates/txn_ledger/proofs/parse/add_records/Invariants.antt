@@ -1,5 +1,5 @@
 use Rattle.std.proofs.Common.{◌≤◌, length}
-use Rattle.txn_ledger.proofs.Parsed.{Cut}
+use Rattle.txn_ledger.proofs.Cuts.{Cut}
 use Rattle.txn_ledger.proofs.parse.add_records.Given as goal
 
 abbrev pub invariant-loop-rest : goal.invariant-loop-rest

@@ -1,6 +1,6 @@
 use Rattle.std.proofs.Common.{◌≡◌, ℕ, List, length, inl, inr, arith, ap, ◌∙◌}
 use Rattle.byteorder.specs.Endian.{big_number}
-use Rattle.txn_ledger.proofs.Parsed.{none_long, head_read}
+use Rattle.txn_ledger.proofs.Heads.{none_long, head_read}
 use Rattle.txn_ledger.proofs.parse.head_of.Goals as goal
 
 pub returns-then-len-gt-MAX_BODY-clause-head : goal.returns-then-len-gt-MAX_BODY-clause-head

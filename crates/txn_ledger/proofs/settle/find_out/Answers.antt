@@ -1,11 +1,9 @@
-use Rattle.std.proofs.Common.{◌≡◌, ℕ, List, sym, ◌∙◌, ap, subst, arith, rules}
+use Rattle.std.proofs.Common.{ℕ, List, sym, ◌∙◌, ap, subst, arith, rules}
 use Rattle.std.proofs.lemmas.Bool.{false≢true}
-use Rattle.txn_base.specs.declared.file_id.FileId.{FileId}
-use Rattle.txn_base.specs.Disk.{Files, Changes, OldOrResized, Since}
+use Rattle.txn_base.specs.Disk.{Files}
 use Rattle.txn_base.specs.Content.{Backed}
 use Rattle.txn_ledger.specs.Ledger.{StandsIn}
 use Rattle.txn_ledger.proofs.Bodies.{sent_small}
-use Rattle.txn_ledger.proofs.Chain.{same_on}
 use Rattle.txn_ledger.proofs.InFlight.{IsWhole}
 use Rattle.txn_ledger.proofs.Settling.{read_kept, read_dropped, kept_backed, cut_backed, cut_in_doubt, cut_settles}
 use Rattle.txn_ledger.proofs.settle.find_out.Goals as goal
@@ -16,13 +14,9 @@ is_whole-requires-clause-room g c = omega (arith, c.requires.bound, sent_small c
 pub returns-then-branch-clause-ok : goal.returns-then-branch-clause-ok
 returns-then-branch-clause-ok g c =
     let s = c.args.carrier.now.content in
-    let looked = same_on _ _ _ c.args.file c.args.end _ _ _ _ c.sync.ensures.images c.is_whole.ensures.images in
-    let at_mid : (e : Files) → g.D.Disk.image c.is_whole.new.disk e → g.D.Disk.seen c.args.disk.now c.args.file ≡ e s.key =
-    λ e at. (let f = c.is_whole.ensures.images.at_end e at in sym (c.in_ok-sync.ensures.durable f.0 f.1) ∙ ap (λ (f : Files). f c.args.file) (sym f.2) ∙ ap e c.requires.file) in
     let whole : g.D.Disk.tells → IsWhole c.args.end c.args.sent (g.D.Disk.seen c.args.disk.now c.args.file) =
     λ told. subst (λ (f : Files). IsWhole c.args.end c.args.sent (f c.args.file)) c.sync.ensures.seen (c.in_ok-is_whole.ensures.whole told c.if-branch.true) in
-    kept_backed s c.args.end c.args.sent c.requires.ends c.requires.in_flight c.requires.sent _ _ _ _ _ c.requires.backed looked
-    (λ e at. subst (λ (x : List ℕ). IsWhole c.args.end c.args.sent x) (at_mid e at) (whole (g.met.D.Disk.image_is_told _ e at)))
+    kept_backed s c.args.end c.args.sent c.requires.ends c.requires.in_flight c.requires.sent _ _ _ _ g.met.D.Disk.image_is_told c.args.file c.requires.file _ _ _ _ c.requires.backed c.sync.ensures.images c.in_ok-sync.ensures.durable c.is_whole.ensures.images whole
 
 pub returns-then-branch-clause-found : goal.returns-then-branch-clause-found
 returns-then-branch-clause-found g c =
@@ -35,42 +29,24 @@ returns-then-branch-clause-found g c =
 pub returns-in_err-cut-clause-err : goal.returns-in_err-cut-clause-err
 returns-in_err-cut-clause-err g c =
     let s = c.args.carrier.now.content in
-    let looked = same_on _ _ _ c.args.file c.args.end _ _ _ _ c.sync.ensures.images c.is_whole.ensures.images in
-    let at_mid : (e : Files) → g.D.Disk.image c.is_whole.new.disk e → g.D.Disk.seen c.args.disk.now c.args.file ≡ e s.key =
-    λ e at. (let f = c.is_whole.ensures.images.at_end e at in sym (c.in_ok-sync.ensures.durable f.0 f.1) ∙ ap (λ (f : Files). f c.args.file) (sym f.2) ∙ ap e c.requires.file) in
     let not_whole : g.D.Disk.tells → IsWhole c.args.end c.args.sent (g.D.Disk.seen c.args.disk.now c.args.file) → ⊥ =
     λ told is. (let w = subst (λ (f : Files). IsWhole c.args.end c.args.sent (f c.args.file)) (sym c.sync.ensures.seen) is in false≢true (sym c.if-branch.false ∙ c.in_ok-is_whole.ensures.not_whole told w.0 w.1)) in
-    let none : (e : Files) → g.D.Disk.image c.is_whole.new.disk e → IsWhole c.args.end c.args.sent (e s.key) → ⊥ =
-    λ e at is. not_whole (g.met.D.Disk.image_is_told _ e at) (subst (λ (x : List ℕ). IsWhole c.args.end c.args.sent x) (sym (at_mid e at)) is) in
-    let cutting = subst (λ (f : FileId). Since g.D.Disk.moment g.D.Disk.image g.D.Disk.left_since (Changes f (OldOrResized c.args.end)) c.is_whole.new.disk c.cut.new.disk) c.requires.file c.cut.ensures.images in
-    let doubt : Backed StandsIn (g.D.Disk.image c.cut.new.disk) s = cut_in_doubt s c.args.end c.args.sent c.requires.ends c.requires.in_flight c.requires.sent _ _ _ _ _ c.requires.backed looked none _ cutting in
+    let doubt : Backed StandsIn (g.D.Disk.image c.cut.new.disk) s = cut_in_doubt s c.args.end c.args.sent c.requires.ends c.requires.in_flight c.requires.sent _ _ _ _ g.met.D.Disk.image_is_told c.args.file c.requires.file _ _ _ _ c.requires.backed c.sync.ensures.images c.in_ok-sync.ensures.durable c.is_whole.ensures.images not_whole _ c.cut.ensures.images in
     search rules
 
 pub returns-in_err-cut-clause-images : goal.returns-in_err-cut-clause-images
 returns-in_err-cut-clause-images g c =
     let s = c.args.carrier.now.content in
-    let looked = same_on _ _ _ c.args.file c.args.end _ _ _ _ c.sync.ensures.images c.is_whole.ensures.images in
-    let at_mid : (e : Files) → g.D.Disk.image c.is_whole.new.disk e → g.D.Disk.seen c.args.disk.now c.args.file ≡ e s.key =
-    λ e at. (let f = c.is_whole.ensures.images.at_end e at in sym (c.in_ok-sync.ensures.durable f.0 f.1) ∙ ap (λ (f : Files). f c.args.file) (sym f.2) ∙ ap e c.requires.file) in
     let not_whole : g.D.Disk.tells → IsWhole c.args.end c.args.sent (g.D.Disk.seen c.args.disk.now c.args.file) → ⊥ =
     λ told is. (let w = subst (λ (f : Files). IsWhole c.args.end c.args.sent (f c.args.file)) (sym c.sync.ensures.seen) is in false≢true (sym c.if-branch.false ∙ c.in_ok-is_whole.ensures.not_whole told w.0 w.1)) in
-    let none : (e : Files) → g.D.Disk.image c.is_whole.new.disk e → IsWhole c.args.end c.args.sent (e s.key) → ⊥ =
-    λ e at is. not_whole (g.met.D.Disk.image_is_told _ e at) (subst (λ (x : List ℕ). IsWhole c.args.end c.args.sent x) (sym (at_mid e at)) is) in
-    let cutting = subst (λ (f : FileId). Since g.D.Disk.moment g.D.Disk.image g.D.Disk.left_since (Changes f (OldOrResized c.args.end)) c.is_whole.new.disk c.cut.new.disk) c.requires.file c.cut.ensures.images in
-    cut_settles s c.args.end c.args.sent c.requires.ends c.requires.in_flight c.requires.sent _ _ _ _ _ c.requires.backed looked none _ cutting
+    cut_settles s c.args.end c.args.sent c.requires.ends c.requires.in_flight c.requires.sent _ _ _ _ g.met.D.Disk.image_is_told c.args.file c.requires.file _ _ _ _ c.requires.backed c.sync.ensures.images c.in_ok-sync.ensures.durable c.is_whole.ensures.images not_whole _ c.cut.ensures.images
 
 pub returns-clause-ok : goal.returns-clause-ok
 returns-clause-ok g c =
     let s = c.args.carrier.now.content in
-    let looked = same_on _ _ _ c.args.file c.args.end _ _ _ _ c.sync.ensures.images c.is_whole.ensures.images in
-    let at_mid : (e : Files) → g.D.Disk.image c.is_whole.new.disk e → g.D.Disk.seen c.args.disk.now c.args.file ≡ e s.key =
-    λ e at. (let f = c.is_whole.ensures.images.at_end e at in sym (c.in_ok-sync.ensures.durable f.0 f.1) ∙ ap (λ (f : Files). f c.args.file) (sym f.2) ∙ ap e c.requires.file) in
     let not_whole : g.D.Disk.tells → IsWhole c.args.end c.args.sent (g.D.Disk.seen c.args.disk.now c.args.file) → ⊥ =
     λ told is. (let w = subst (λ (f : Files). IsWhole c.args.end c.args.sent (f c.args.file)) (sym c.sync.ensures.seen) is in false≢true (sym c.if-branch.false ∙ c.in_ok-is_whole.ensures.not_whole told w.0 w.1)) in
-    let none : (e : Files) → g.D.Disk.image c.is_whole.new.disk e → IsWhole c.args.end c.args.sent (e s.key) → ⊥ =
-    λ e at is. not_whole (g.met.D.Disk.image_is_told _ e at) (subst (λ (x : List ℕ). IsWhole c.args.end c.args.sent x) (sym (at_mid e at)) is) in
-    let cutting = subst (λ (f : FileId). Since g.D.Disk.moment g.D.Disk.image g.D.Disk.left_since (Changes f (OldOrResized c.args.end)) c.is_whole.new.disk c.cut.new.disk) c.requires.file c.cut.ensures.images in
-    cut_backed s c.args.end c.args.sent c.requires.ends c.requires.in_flight c.requires.sent _ _ _ _ _ c.requires.backed looked none _ cutting
+    cut_backed s c.args.end c.args.sent c.requires.ends c.requires.in_flight c.requires.sent _ _ _ _ g.met.D.Disk.image_is_told c.args.file c.requires.file _ _ _ _ c.requires.backed c.sync.ensures.images c.in_ok-sync.ensures.durable c.is_whole.ensures.images not_whole _ c.cut.ensures.images
 
 pub returns-clause-found : goal.returns-clause-found
 returns-clause-found g c =
@@ -83,12 +59,6 @@ returns-clause-found g c =
 pub returns-clause-images : goal.returns-clause-images
 returns-clause-images g c =
     let s = c.args.carrier.now.content in
-    let looked = same_on _ _ _ c.args.file c.args.end _ _ _ _ c.sync.ensures.images c.is_whole.ensures.images in
-    let at_mid : (e : Files) → g.D.Disk.image c.is_whole.new.disk e → g.D.Disk.seen c.args.disk.now c.args.file ≡ e s.key =
-    λ e at. (let f = c.is_whole.ensures.images.at_end e at in sym (c.in_ok-sync.ensures.durable f.0 f.1) ∙ ap (λ (f : Files). f c.args.file) (sym f.2) ∙ ap e c.requires.file) in
     let not_whole : g.D.Disk.tells → IsWhole c.args.end c.args.sent (g.D.Disk.seen c.args.disk.now c.args.file) → ⊥ =
     λ told is. (let w = subst (λ (f : Files). IsWhole c.args.end c.args.sent (f c.args.file)) (sym c.sync.ensures.seen) is in false≢true (sym c.if-branch.false ∙ c.in_ok-is_whole.ensures.not_whole told w.0 w.1)) in
-    let none : (e : Files) → g.D.Disk.image c.is_whole.new.disk e → IsWhole c.args.end c.args.sent (e s.key) → ⊥ =
-    λ e at is. not_whole (g.met.D.Disk.image_is_told _ e at) (subst (λ (x : List ℕ). IsWhole c.args.end c.args.sent x) (sym (at_mid e at)) is) in
-    let cutting = subst (λ (f : FileId). Since g.D.Disk.moment g.D.Disk.image g.D.Disk.left_since (Changes f (OldOrResized c.args.end)) c.is_whole.new.disk c.cut.new.disk) c.requires.file c.cut.ensures.images in
-    cut_settles s c.args.end c.args.sent c.requires.ends c.requires.in_flight c.requires.sent _ _ _ _ _ c.requires.backed looked none _ cutting
+    cut_settles s c.args.end c.args.sent c.requires.ends c.requires.in_flight c.requires.sent _ _ _ _ g.met.D.Disk.image_is_told c.args.file c.requires.file _ _ _ _ c.requires.backed c.sync.ensures.images c.in_ok-sync.ensures.durable c.is_whole.ensures.images not_whole _ c.cut.ensures.images
