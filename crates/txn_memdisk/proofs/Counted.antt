@@ -1,17 +1,17 @@
--- A list that is counted down number by number.
-use Rattle.std.proofs.Common.{◌≡◌, ℕ, zero, suc, ◌+◌, ◌-◌, ◌<◌, List, [], ◌∷◌, ◌++◌, length, get_or, take, drop, refl, sym, ◌∙◌, ap, arith, add-one}
+-- A list whose elements are changed one by one.
+use Rattle.std.proofs.Common.{◌≡◌, ℕ, zero, suc, ◌+◌, ◌<◌, List, [], ◌∷◌, ◌++◌, map, length, get_or, take, drop, refl, sym, ◌∙◌, ap, arith, add-one}
 use Rattle.std.proofs.Math.ListN.{set}
-use Rattle.txn_memdisk.specs.Countdown.{counted_down}
 
--- so far
-abbrev pub so_far : ℕ → List ℕ → List ℕ
-so_far i xs = counted_down (take i xs) ++ drop i xs
+module _ {A : Type 0} (f : A → A) where
+  -- so far
+  abbrev pub so_far : ℕ → List A → List A
+  so_far i xs = map f (take i xs) ++ drop i xs
 
-at_one : (xs : List ℕ) (i : ℕ) → i < length xs → set (so_far i xs) i (get_or (so_far i xs) i 0 - 1) ≡ so_far (suc i) xs
-at_one [] i h = absurd (omega arith)
-at_one (x ∷ xs) zero h = refl
-at_one (x ∷ xs) (suc i) h = ap (λ l. (x - 1) ∷ l) (at_one xs i (omega arith))
+  at_one : (xs : List A) (i : ℕ) (d : A) → i < length xs → set (so_far i xs) i (f (get_or (so_far i xs) i d)) ≡ so_far (suc i) xs
+  at_one [] i d h = absurd (omega arith)
+  at_one (x ∷ xs) zero d h = refl
+  at_one (x ∷ xs) (suc i) d h = ap (λ l. f x ∷ l) (at_one xs i d (omega arith))
 
--- one number more
-pub counted_more : (xs ys : List ℕ) (i n : ℕ) → ys ≡ so_far i xs → i < length xs → n ≡ get_or ys i 0 - 1 → set ys i n ≡ so_far (i + 1) xs
-counted_more xs ys i n e h v = ap (λ k. set ys i k) v ∙ ap (λ l. set l i (get_or l i 0 - 1)) e ∙ at_one xs i h ∙ ap (λ k. so_far k xs) (sym (add-one i))
+  -- one element more
+  pub one_more : (xs ys : List A) (i : ℕ) (d y : A) → ys ≡ so_far i xs → i < length xs → y ≡ f (get_or ys i d) → set ys i y ≡ so_far (i + 1) xs
+  one_more xs ys i d y e h v = ap (λ k. set ys i k) v ∙ ap (λ l. set l i (f (get_or l i d))) e ∙ at_one xs i d h ∙ ap (λ k. so_far k xs) (sym (add-one i))

@@ -1,2 +1,11 @@
+pub mod Change
 pub mod Countdown
+pub mod Counts
+pub mod Crash
+pub mod Disk
+pub mod Faults
+pub mod Files
+pub mod Mixed
 pub mod Outside
+pub mod Past
+pub mod Places

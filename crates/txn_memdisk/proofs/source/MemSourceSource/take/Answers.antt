@@ -1,4 +1,4 @@
-use Rattle.std.proofs.Common.{◌+◌, ◌-◌, ◌≤◌, sym, ap, ◌∙◌, length, drop, take, arith, length-append, length-take, length-drop}
+use Rattle.std.proofs.Common.{◌+◌, ◌-◌, ◌≤◌, sym, ap, ◌∙◌, length, drop, arith, length-append, length-take, length-drop}
 use Rattle.std.proofs.lemmas.List.{drop_all}
 use Rattle.txn_memdisk.specs.Outside.{Giving}
 use Rattle.txn_memdisk.proofs.Given.{gives}

@@ -1,0 +1,47 @@
+//! How many calls of a disk have failed.
+ghost use Rattle.std.specs.Prelude.{◌≡◌, ◌<◌, ◌≤◌, ◌+◌, ◌-◌, ◌^◌, min, ℕ};
+ghost use Rattle.txn_base.specs.Outside.{Rose};
+
+use txn_base::Failed;
+
+/// The failed calls: all of them, and by the part of the file. The parts from 64 on share one count.
+#[derive(Drop)]
+pub struct Counts {
+    pub all: u64,
+    pub parts: [u64; 64],
+    pub beyond: u64,
+}
+
+impl Counts {
+    ghost use Rattle.txn_memdisk.specs.Counts.{part_count};
+
+    /// None has failed.
+    pub fn new() -> Self
+        ensures all { result.all ≡ 0 }
+        ensures parts { (p : ℕ) → part_count result p ≡ 0 }
+    {
+        Counts {
+            all: 0,
+            parts: [0; 64],
+            beyond: 0,
+        }
+    }
+
+    /// Counts a failed call on a file of this part.
+    pub fn rise(&mut self, part: u32) -> Failed
+        ensures all { self.new.all ≡ min (self.old.all + 1) (2 ^ 64 - 1) }
+        ensures later { self.old.all ≤ self.new.all }
+        ensures part { Rose (part_count self.old part) (part_count self.new part) }
+        ensures parts_later { (p : ℕ) → part_count self.old p ≤ part_count self.new p }
+        ensures others { (p : ℕ) → p < 64 → (p ≡ part → ⊥) → part_count self.new p ≡ part_count self.old p }
+    {
+        self.all = self.all.saturating_add(1);
+        if part < 64 {
+            let at = part as usize;
+            self.parts[at] = self.parts[at].saturating_add(1);
+        } else {
+            self.beyond = self.beyond.saturating_add(1);
+        }
+        Failed
+    }
+}
