@@ -41,9 +41,9 @@ abbrev pub SameEntries : MemDisk → MemDisk → Type 0
 SameEntries old new = (id : FileId) → entries_of new id ≡ entries_of old id
 
 -- A call of this kind on this file was counted, succeeded only where it isn't one of those that fail, and raised the
--- count by one where it failed, and not where it succeeded.
+-- count and that of the part by one where it failed, and none where it succeeded.
 pub record IsCounted {T E : Type 0} (op : Op) (file : FileId) (result : Result T E) (old new : MemDisk) : Type 0 where
   pub waits : waits_of new ≡ counted_at file op (waits_of old)
   pub unlisted : OnOk result (is_listed_at file op (waits_of old) ≡ false)
   pub none_failed : OnOk result (new.counts ≡ old.counts)
-  pub one_failed : OnErr result (faults_of new ≡ min (faults_of old + 1) (2 ^ 64 - 1))
+  pub one_failed : OnErr result ((faults_of new ≡ min (faults_of old + 1) (2 ^ 64 - 1)) × (part_faults_of new file.part ≡ min (part_faults_of old file.part + 1) (2 ^ 64 - 1)))

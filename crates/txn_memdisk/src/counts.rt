@@ -1,6 +1,5 @@
 //! How many calls of a disk have failed.
 ghost use Rattle.std.specs.Prelude.{◌≡◌, ◌<◌, ◌≤◌, ◌+◌, ◌-◌, ◌^◌, min, ℕ};
-ghost use Rattle.txn_base.specs.Outside.{Rose};
 
 use txn_base::Failed;
 
@@ -31,7 +30,7 @@ impl Counts {
     pub fn rise(&mut self, part: u32) -> Failed
         ensures all { self.new.all ≡ min (self.old.all + 1) (2 ^ 64 - 1) }
         ensures later { self.old.all ≤ self.new.all }
-        ensures part { Rose (part_count self.old part) (part_count self.new part) }
+        ensures part { part_count self.new part ≡ min (part_count self.old part + 1) (2 ^ 64 - 1) }
         ensures parts_later { (p : ℕ) → part_count self.old p ≤ part_count self.new p }
         ensures others { (p : ℕ) → p < 64 → (p ≡ part → ⊥) → part_count self.new p ≡ part_count self.old p }
     {

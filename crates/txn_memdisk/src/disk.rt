@@ -170,7 +170,7 @@ impl MemDisk {
         ensures error { IsErr result }
         ensures images { Since moment_of image_of left_of (Changes file (Torn offset count)) self.old self.new }
         ensures cause { HasPartCause file.part (faults_of self.old) (faults_of self.new) (part_faults_of self.old) (part_faults_of self.new) result }
-        ensures one_failed { faults_of self.new ≡ min (faults_of self.old + 1) (2 ^ 64 - 1) }
+        ensures one_failed { (faults_of self.new ≡ min (faults_of self.old + 1) (2 ^ 64 - 1)) × (part_faults_of self.new file.part ≡ min (part_faults_of self.old file.part + 1) (2 ^ 64 - 1)) }
         ensures waits { waits_of self.new ≡ waits_of self.old }
         ensures entries { SameEntries self.old self.new ⊎ ((id : FileId) → entries_of self.new id ≡ updated file (lost_entry offset count (entries_of self.old file)) (entries_of self.old) id) }
     {
@@ -189,7 +189,9 @@ impl MemDisk {
 
     /// An empty disk, on which these calls fail. Each is the nth of its kind on its file, counted from 1.
     pub fn new(alloc: Global, faults: &[FaultAt]) -> Result<MemDisk, AllocError>
-        ensures empty { IfOk result (λ disk. (id : FileId) → entries_of disk id ≡ nothing) }
+        ensures entries { IfOk result (λ disk. (id : FileId) → entries_of disk id ≡ nothing) }
+        ensures empty { IfOk result (λ disk. (id : FileId) → seen_of disk id ≡ []) }
+        ensures only { IfOk result (λ disk. (c : Files) → image_of disk c → (id : FileId) → c id ≡ []) }
         ensures waits { IfOk result (λ disk. waits_of disk ≡ faults.now) }
         ensures count { IfOk result (λ disk. faults_of disk ≡ 0) }
         ensures part_counts { IfOk result (λ disk. (p : ℕ) → part_faults_of disk p ≡ 0) }
@@ -207,6 +209,8 @@ impl MemDisk {
     /// The file holds these bytes, and a crash leaves them. An `Err` changes no file.
     pub fn put_file(&mut self, file: FileId, bytes: &[u8]) -> Result<(), AllocError>
         ensures entries { OnOk result ((id : FileId) → entries_of self.new id ≡ updated file (sure_entry bytes.now) (entries_of self.old) id) }
+        ensures seen { OnOk result (seen_of self.new file ≡ bytes.now) }
+        ensures others { Elsewhere file (seen_of self.old) (seen_of self.new) }
         ensures durable { OnOk result (Only file bytes.now (image_of self.new)) }
         ensures images { OnOk result (Since moment_of image_of left_of (Changes file (Becomes bytes.now)) self.old self.new) }
         ensures err { OnErr result (SameEntries self.old self.new) }

@@ -109,6 +109,6 @@ impl MemFile {
         ensures entry { entry_of self.new ≡ sure_entry bytes.items }
     {
         self.bytes = bytes;
-        self.pending.clear();
+        self.make_sure();
     }
 }
