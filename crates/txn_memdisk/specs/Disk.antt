@@ -1,11 +1,11 @@
 -- What a disk in memory means.
-use Rattle.std.specs.Prelude.{◌≡◌, ℕ, ◌+◌, ◌-◌, ◌^◌, min, false, List, length, Result, OnOk, OnErr}
+use Rattle.std.specs.Prelude.{◌≡◌, ℕ, false, List, length, Result, OnOk, OnErr}
 use Rattle.txn_base.specs.declared.file_id.FileId.{FileId}
 use Rattle.txn_base.specs.Disk.{Files}
 use Rattle.txn_memdisk.specs.declared.disk.MemDisk.{MemDisk}
 use Rattle.txn_memdisk.specs.declared.fault.FaultAt.{FaultAt}
 use Rattle.txn_memdisk.specs.declared.fault.Op.{Op}
-use Rattle.txn_memdisk.specs.Counts.{part_count}
+use Rattle.txn_memdisk.specs.Counts.{raised, part_count}
 use Rattle.txn_memdisk.specs.Faults.{is_listed_at, counted_at}
 use Rattle.txn_memdisk.specs.Files.{Entry, entry_in, seen_in, IsImage}
 use Rattle.txn_memdisk.specs.Past.{LeftSince}
@@ -46,4 +46,4 @@ pub record IsCounted {T E : Type 0} (op : Op) (file : FileId) (result : Result T
   pub waits : waits_of new ≡ counted_at file op (waits_of old)
   pub unlisted : OnOk result (is_listed_at file op (waits_of old) ≡ false)
   pub none_failed : OnOk result (new.counts ≡ old.counts)
-  pub one_failed : OnErr result ((faults_of new ≡ min (faults_of old + 1) (2 ^ 64 - 1)) × (part_faults_of new file.part ≡ min (part_faults_of old file.part + 1) (2 ^ 64 - 1)))
+  pub one_failed : OnErr result ((faults_of new ≡ raised (faults_of old)) × (part_faults_of new file.part ≡ raised (part_faults_of old file.part)))

@@ -1,5 +1,5 @@
 //! How many calls of a disk have failed.
-ghost use Rattle.std.specs.Prelude.{◌≡◌, ◌<◌, ◌≤◌, ◌+◌, ◌-◌, ◌^◌, min, ℕ};
+ghost use Rattle.std.specs.Prelude.{◌≡◌, ◌<◌, ◌≤◌, ℕ};
 
 use txn_base::Failed;
 
@@ -12,7 +12,7 @@ pub struct Counts {
 }
 
 impl Counts {
-    ghost use Rattle.txn_memdisk.specs.Counts.{part_count};
+    ghost use Rattle.txn_memdisk.specs.Counts.{raised, part_count};
 
     /// None has failed.
     pub fn new() -> Self
@@ -28,9 +28,9 @@ impl Counts {
 
     /// Counts a failed call on a file of this part.
     pub fn rise(&mut self, part: u32) -> Failed
-        ensures all { self.new.all ≡ min (self.old.all + 1) (2 ^ 64 - 1) }
+        ensures all { self.new.all ≡ raised self.old.all }
         ensures later { self.old.all ≤ self.new.all }
-        ensures part { part_count self.new part ≡ min (part_count self.old part + 1) (2 ^ 64 - 1) }
+        ensures part { part_count self.new part ≡ raised (part_count self.old part) }
         ensures parts_later { (p : ℕ) → part_count self.old p ≤ part_count self.new p }
         ensures others { (p : ℕ) → p < 64 → (p ≡ part → ⊥) → part_count self.new p ≡ part_count self.old p }
     {

@@ -1,8 +1,9 @@
 //! A disk in memory.
-ghost use Rattle.std.specs.Prelude.{◌≡◌, ◌+◌, ◌-◌, ◌≤◌, ◌<◌, ◌^◌, ◌⊎◌, ℕ, [], true, min, length, take, drop, refl, IfOk, OnOk, OnErr, IsErr};
+ghost use Rattle.std.specs.Prelude.{◌≡◌, ◌+◌, ◌≤◌, ◌<◌, ◌^◌, ◌⊎◌, ℕ, [], true, length, take, drop, refl, IfOk, OnOk, OnErr, IsErr};
 ghost use Rattle.std.proofs.Common.{inl};
 ghost use Rattle.txn_base.specs.declared.file_id.FileId.{FileId};
 ghost use Rattle.txn_base.specs.Disk.{Files, Same, Elsewhere, Changes, Torn, OldOrResized, overwritten, resized, Since, Only, HasPartCause};
+ghost use Rattle.txn_memdisk.specs.Counts.{raised};
 ghost use Rattle.txn_memdisk.specs.Crash.{chosen};
 ghost use Rattle.txn_memdisk.specs.Faults.{is_listed_at};
 ghost use Rattle.txn_memdisk.specs.Files.{Becomes, nothing, updated, written_entry, lost_entry, sized_entry, sure_entry};
@@ -170,7 +171,7 @@ impl MemDisk {
         ensures error { IsErr result }
         ensures images { Since moment_of image_of left_of (Changes file (Torn offset count)) self.old self.new }
         ensures cause { HasPartCause file.part (faults_of self.old) (faults_of self.new) (part_faults_of self.old) (part_faults_of self.new) result }
-        ensures one_failed { (faults_of self.new ≡ min (faults_of self.old + 1) (2 ^ 64 - 1)) × (part_faults_of self.new file.part ≡ min (part_faults_of self.old file.part + 1) (2 ^ 64 - 1)) }
+        ensures one_failed { (faults_of self.new ≡ raised (faults_of self.old)) × (part_faults_of self.new file.part ≡ raised (part_faults_of self.old file.part)) }
         ensures waits { waits_of self.new ≡ waits_of self.old }
         ensures entries { SameEntries self.old self.new ⊎ ((id : FileId) → entries_of self.new id ≡ updated file (lost_entry offset count (entries_of self.old file)) (entries_of self.old) id) }
     {
