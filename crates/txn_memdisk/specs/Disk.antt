@@ -7,7 +7,7 @@ use Rattle.txn_memdisk.specs.declared.fault.FaultAt.{FaultAt}
 use Rattle.txn_memdisk.specs.declared.fault.Op.{Op}
 use Rattle.txn_memdisk.specs.Counts.{raised, part_count}
 use Rattle.txn_memdisk.specs.Faults.{is_listed_at, counted_at}
-use Rattle.txn_memdisk.specs.Files.{Entry, entry_in, seen_in, IsImage}
+use Rattle.txn_memdisk.specs.Files.{Entry, entry_in, updated, seen_in, IsImage}
 use Rattle.txn_memdisk.specs.Past.{LeftSince}
 
 abbrev pub seen_of : MemDisk → Files
@@ -36,9 +36,13 @@ entries_of disk = entry_in disk.files.items
 abbrev pub waits_of : MemDisk → List FaultAt
 waits_of disk = disk.waits.items
 
--- each file is as it was
+-- Each file is as it was.
 abbrev pub SameEntries : MemDisk → MemDisk → Type 0
 SameEntries old new = (id : FileId) → entries_of new id ≡ entries_of old id
+
+-- This file has this entry, and each other file is as it was.
+abbrev pub HasEntry : FileId → Entry → MemDisk → MemDisk → Type 0
+HasEntry file entry old new = (id : FileId) → entries_of new id ≡ updated file entry (entries_of old) id
 
 -- A call of this kind on this file was counted, succeeded only where it isn't one of those that fail, and raised the
 -- count and that of the part by one where it failed, and none where it succeeded.

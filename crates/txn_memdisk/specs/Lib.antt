@@ -6,6 +6,6 @@ pub mod Disk
 pub mod Faults
 pub mod Files
 pub mod Mixed
-pub mod Outside
 pub mod Past
 pub mod Places
+pub mod Streams

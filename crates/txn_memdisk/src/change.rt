@@ -6,7 +6,7 @@ ghost use Rattle.txn_memdisk.specs.Change.{undo_one, put_back, undone, made, fil
 use std::alloc::{AllocError, Global};
 
 /// What a call did to a file: its size was set, or bytes in a range were written.
-#[derive(Clone, Copy, Debug, Drop)]
+#[derive(Clone, Copy, Debug)]
 pub enum Change {
     Sized { size: u64 },
     Written { offset: u64, count: u64 },

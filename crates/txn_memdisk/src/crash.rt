@@ -9,7 +9,7 @@ use std::alloc::{AllocError, Global};
 
 /// What a crash makes of the changes that are pending: they are lost, or kept, or the sizes are kept and the ranges
 /// that were written are filled with a byte.
-#[derive(Clone, Copy, Debug, Drop)]
+#[derive(Clone, Copy, Debug)]
 pub enum Choice {
     Old,
     New,

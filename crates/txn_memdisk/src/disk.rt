@@ -6,10 +6,10 @@ ghost use Rattle.txn_base.specs.Disk.{Files, Same, Elsewhere, Changes, Torn, Old
 ghost use Rattle.txn_memdisk.specs.Counts.{raised};
 ghost use Rattle.txn_memdisk.specs.Crash.{chosen};
 ghost use Rattle.txn_memdisk.specs.Faults.{is_listed_at};
-ghost use Rattle.txn_memdisk.specs.Files.{Becomes, nothing, updated, written_entry, lost_entry, sized_entry, sure_entry};
+ghost use Rattle.txn_memdisk.specs.Files.{Becomes, nothing, written_entry, lost_entry, sized_entry, sure_entry};
 ghost use Rattle.txn_memdisk.specs.Past.{only_last};
 ghost use Rattle.txn_memdisk.specs.Mixed.{mixed_image};
-ghost use Rattle.txn_memdisk.specs.Disk.{seen_of, image_of, moment_of, left_of, faults_of, part_faults_of, entries_of, waits_of, SameEntries, IsCounted};
+ghost use Rattle.txn_memdisk.specs.Disk.{seen_of, image_of, moment_of, left_of, faults_of, part_faults_of, entries_of, waits_of, SameEntries, HasEntry, IsCounted};
 
 use crate::counts::Counts;
 use crate::crash::{Choice, all_left};
@@ -20,7 +20,7 @@ use std::alloc::{AllocError, Global};
 use std::snapshot::Snapshot;
 use txn_base::{Disk, Failed, FileId};
 
-/// The greatest size of a file.
+/// The greatest size of a file, in bytes.
 const MAX_SIZE: u64 = 1 << 50;
 
 /// A disk in memory. The calls that it was told to fail fail, and those that find no memory. It remembers each state
@@ -29,7 +29,9 @@ const MAX_SIZE: u64 = 1 << 50;
 pub struct MemDisk {
     alloc: Global,
     files: Vec<MemFile>,
+    /// The files before each change, the first of them first.
     past: Vec<Snapshot<Vec<MemFile>>>,
+    /// The calls that are to fail, each with the number of calls that it takes to come to it.
     waits: Vec<FaultAt>,
     counts: Counts,
 }
@@ -105,8 +107,8 @@ impl Disk for MemDisk {
         ensures images { Since moment_of image_of left_of (Changes file (Torn offset (length bytes.now))) self.old self.new }
         ensures cause { HasPartCause file.part (faults_of self.old) (faults_of self.new) (part_faults_of self.old) (part_faults_of self.new) result }
         ensures counted { IsCounted Op.WriteAt file result self.old self.new }
-        ensures entries { OnOk result ((id : FileId) → entries_of self.new id ≡ updated file (written_entry offset bytes.now (entries_of self.old file)) (entries_of self.old) id) }
-        ensures failed { OnErr result (SameEntries self.old self.new ⊎ ((is_listed_at file Op.WriteAt (waits_of self.old) ≡ true) × ((id : FileId) → entries_of self.new id ≡ updated file (lost_entry offset (length bytes.now) (entries_of self.old file)) (entries_of self.old) id))) }
+        ensures entries { OnOk result (HasEntry file (written_entry offset bytes.now (entries_of self.old file)) self.old self.new) }
+        ensures failed { OnErr result (SameEntries self.old self.new ⊎ ((is_listed_at file Op.WriteAt (waits_of self.old) ≡ true) × (HasEntry file (lost_entry offset (length bytes.now) (entries_of self.old file)) self.old self.new))) }
     {
         if fires_at(&mut self.waits, file, Op::WriteAt) {
             return self.lose(file, offset, bytes.len() as u64);
@@ -131,7 +133,7 @@ impl Disk for MemDisk {
         ensures images { Since moment_of image_of left_of (Changes file (OldOrResized size)) self.old self.new }
         ensures cause { HasPartCause file.part (faults_of self.old) (faults_of self.new) (part_faults_of self.old) (part_faults_of self.new) result }
         ensures counted { IsCounted Op.Resize file result self.old self.new }
-        ensures entries { OnOk result ((id : FileId) → entries_of self.new id ≡ updated file (sized_entry size (entries_of self.old file)) (entries_of self.old) id) }
+        ensures entries { OnOk result (HasEntry file (sized_entry size (entries_of self.old file)) self.old self.new) }
         ensures failed { OnErr result (SameEntries self.old self.new) }
     {
         if fires_at(&mut self.waits, file, Op::Resize) {
@@ -152,7 +154,7 @@ impl Disk for MemDisk {
         ensures images { Since moment_of image_of left_of Same self.old self.new }
         ensures cause { HasPartCause file.part (faults_of self.old) (faults_of self.new) (part_faults_of self.old) (part_faults_of self.new) result }
         ensures counted { IsCounted Op.Sync file result self.old self.new }
-        ensures entries { OnOk result ((id : FileId) → entries_of self.new id ≡ updated file (sure_entry (entries_of self.old file).seen) (entries_of self.old) id) }
+        ensures entries { OnOk result (HasEntry file (sure_entry (entries_of self.old file).seen) self.old self.new) }
         ensures failed { OnErr result (SameEntries self.old self.new) }
     {
         if fires_at(&mut self.waits, file, Op::Sync) {
@@ -166,28 +168,6 @@ impl Disk for MemDisk {
 }
 
 impl MemDisk {
-    /// Counts a write that fails. Its range is pending, unless there is no memory to say so.
-    fn lose(&mut self, file: FileId, offset: u64, count: u64) -> Result<(), Failed>
-        ensures error { IsErr result }
-        ensures images { Since moment_of image_of left_of (Changes file (Torn offset count)) self.old self.new }
-        ensures cause { HasPartCause file.part (faults_of self.old) (faults_of self.new) (part_faults_of self.old) (part_faults_of self.new) result }
-        ensures one_failed { (faults_of self.new ≡ raised (faults_of self.old)) × (part_faults_of self.new file.part ≡ raised (part_faults_of self.old file.part)) }
-        ensures waits { waits_of self.new ≡ waits_of self.old }
-        ensures entries { SameEntries self.old self.new ⊎ ((id : FileId) → entries_of self.new id ≡ updated file (lost_entry offset count (entries_of self.old file)) (entries_of self.old) id) }
-    {
-        match lose(
-            self.alloc,
-            &mut self.files,
-            &mut self.past,
-            file,
-            offset,
-            count,
-        ) {
-            Ok(()) => Err(self.counts.rise(file.part)),
-            Err(_) => Err(self.counts.rise(file.part)),
-        }
-    }
-
     /// An empty disk, on which these calls fail. Each is the nth of its kind on its file, counted from 1.
     pub fn new(alloc: Global, faults: &[FaultAt]) -> Result<MemDisk, AllocError>
         ensures entries { IfOk result (λ disk. (id : FileId) → entries_of disk id ≡ nothing) }
@@ -209,7 +189,7 @@ impl MemDisk {
 
     /// The file holds these bytes, and a crash leaves them. An `Err` changes no file.
     pub fn put_file(&mut self, file: FileId, bytes: &[u8]) -> Result<(), AllocError>
-        ensures entries { OnOk result ((id : FileId) → entries_of self.new id ≡ updated file (sure_entry bytes.now) (entries_of self.old) id) }
+        ensures entries { OnOk result (HasEntry file (sure_entry bytes.now) self.old self.new) }
         ensures seen { OnOk result (seen_of self.new file ≡ bytes.now) }
         ensures others { Elsewhere file (seen_of self.old) (seen_of self.new) }
         ensures durable { OnOk result (Only file bytes.now (image_of self.new)) }
@@ -247,5 +227,27 @@ impl MemDisk {
             waits: Vec::new(self.alloc),
             counts: Counts::new(),
         })
+    }
+
+    /// Counts a write that fails. Its range is pending, unless there is no memory to say so.
+    fn lose(&mut self, file: FileId, offset: u64, count: u64) -> Result<(), Failed>
+        ensures error { IsErr result }
+        ensures images { Since moment_of image_of left_of (Changes file (Torn offset count)) self.old self.new }
+        ensures cause { HasPartCause file.part (faults_of self.old) (faults_of self.new) (part_faults_of self.old) (part_faults_of self.new) result }
+        ensures one_failed { (faults_of self.new ≡ raised (faults_of self.old)) × (part_faults_of self.new file.part ≡ raised (part_faults_of self.old file.part)) }
+        ensures waits { waits_of self.new ≡ waits_of self.old }
+        ensures entries { SameEntries self.old self.new ⊎ (HasEntry file (lost_entry offset count (entries_of self.old file)) self.old self.new) }
+    {
+        match lose(
+            self.alloc,
+            &mut self.files,
+            &mut self.past,
+            file,
+            offset,
+            count,
+        ) {
+            Ok(()) => Err(self.counts.rise(file.part)),
+            Err(_) => Err(self.counts.rise(file.part)),
+        }
     }
 }

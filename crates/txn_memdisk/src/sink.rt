@@ -20,9 +20,9 @@ pub struct MemSink {
 }
 
 impl Model for MemSink {
-    ghost use Rattle.txn_memdisk.specs.Outside.{Taking};
+    ghost use Rattle.txn_memdisk.specs.Streams.{SinkState};
 
-    ghost Value = { Taking };
+    ghost Value = { SinkState };
 
     ghost view = { λ s. record { held = s.bytes.items; most = s.most; waits = s.waits.items; faults = s.faults } };
 }

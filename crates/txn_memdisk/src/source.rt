@@ -22,9 +22,9 @@ pub struct MemSource {
 
 impl Model for MemSource {
     ghost use Rattle.std.specs.Prelude.{◌<◌, ◌≤◌, length, drop};
-    ghost use Rattle.txn_memdisk.specs.Outside.{Giving};
+    ghost use Rattle.txn_memdisk.specs.Streams.{SourceState};
 
-    ghost Value = { Giving };
+    ghost Value = { SourceState };
 
     ghost view = { λ s. record { left = drop s.at s.bytes.bytes; most = s.most; waits = s.waits.items; faults = s.faults } };
 

@@ -1,7 +1,7 @@
 use Rattle.std.proofs.Common.{◌+◌, ◌-◌, ◌≤◌, sym, ap, ◌∙◌, length, drop, arith, length-append, length-take, length-drop}
 use Rattle.std.proofs.lemmas.List.{drop_all}
-use Rattle.txn_memdisk.specs.Outside.{Giving}
-use Rattle.txn_memdisk.proofs.Given.{gives}
+use Rattle.txn_memdisk.specs.Streams.{SourceState}
+use Rattle.txn_memdisk.proofs.Pieces.{gives}
 use Rattle.txn_memdisk.proofs.source.MemSourceSource.take.Goals as goal
 
 pub returns-clause-bytes : goal.returns-clause-bytes
@@ -16,7 +16,7 @@ returns-clause-bytes c =
     let within : n ≤ length bs - at = omega (arith, count, long, left) in
     let after = rw is at c.copy_from_slice.ensures.after in
     let into = c.args.into.now in (
-      sym (ap (λ (v : Giving). v.left) c.self.view_is) ∙ gives bs at n c.copy_from_slice.new.self (drop n into) after within,
+      sym (ap (λ (v : SourceState). v.left) c.self.view_is) ∙ gives bs at n c.copy_from_slice.new.self (drop n into) after within,
       λ none some. drop_all (at + n) bs
           (omega (arith, none, some, count, long, left, c.min.ensures, c.self.invariant.1, c.copy_from_slice.ensures.len, length-append c.copy_from_slice.new.self (drop n into), length-take n into, length-drop n into)),
     )
