@@ -8,11 +8,7 @@ use Rattle.txn_base.specs.declared.entry.CoordEntry.TheVariants as coord
 use Rattle.txn_base.specs.Decoded.{coord_entry_of}
 use Rattle.txn_base.specs.Records.{IsCoordEntry, IsCoordRecord, coord_record, txn_bytes}
 use Rattle.txn_records.specs.Coords.{CoordRecordsDecode, CoordRecordsAreOne, CoordRecordsReadBack}
-use Rattle.txn_records.proofs.Numbers.{txn_read, number_read}
-
--- two records that differ in the kind
-other_kind : {j k : ℕ} {a b : List ℕ} → 1 ∷ j ∷ a ≡ 1 ∷ k ∷ b → j ≡ k
-other_kind e = cc
+use Rattle.txn_records.proofs.Numbers.{txn_read, number_read, other_kind}
 
 -- the entry of a record that was written
 pub coord_decoded : (entry : CoordEntry) → IsCoordEntry entry → coord_entry_of (coord_record entry) ≡ entry

@@ -28,7 +28,7 @@ word_again xs long small =
     let same : big_number 8 xs ≡ from_be_bytes w64 (take 8 xs) = sym (big_from-take 0 8 8 xs (omega arith)) ∙ reads in
     be_bytes_8 (take 8 xs) (big_number 8 xs) (length-take-le 8 xs long) (taken_small 8 xs small long) same
 
-dropped_small : (n : ℕ) (xs : List ℕ) → ((i : ℕ) → get_or xs i 0 < 256) → (i : ℕ) → get_or (drop n xs) i 0 < 256
+pub dropped_small : (n : ℕ) (xs : List ℕ) → ((i : ℕ) → get_or xs i 0 < 256) → (i : ℕ) → get_or (drop n xs) i 0 < 256
 dropped_small n xs small i = let e = get_or-drop n xs i 0 in let at = small (n + i) in omega (arith, e, at)
 
 -- a transaction that was read, written again before what stands behind it
@@ -83,3 +83,7 @@ half_whole xs whole small =
 -- a number of 32 bits has bytes of its own
 pub half_one : (x y : ℕ) → x < 2 ^ 32 → y < 2 ^ 32 → big_bytes 4 x ≡ big_bytes 4 y → x ≡ y
 half_one x y fits small e = sym (number_read 4 x (omega (arith, fits))) ∙ ap (big_number 4) e ∙ number_read 4 y (omega (arith, small))
+
+-- two records that differ in the kind
+pub other_kind : {j k : ℕ} {a b : List ℕ} → 1 ∷ j ∷ a ≡ 1 ∷ k ∷ b → j ≡ k
+other_kind e = cc

@@ -1,3 +1,4 @@
+pub mod Acks
 pub mod Catalog
 pub mod Coords
 pub mod Topics

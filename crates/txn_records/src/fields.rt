@@ -20,6 +20,18 @@ pub fn put_u64(out: &mut Bytes, n: u64)
     out.put(&field);
 }
 
+/// Adds a number of 16 bits into the free room.
+pub fn put_u16(out: &mut Bytes, n: u16)
+    requires { 2 ≤ out.old.room }
+    ensures bytes { out.new.bytes ≡ out.old.bytes ++ big_bytes 2 n }
+    ensures room { out.old.room ≤ out.new.room + 2 }
+    ensures kept { capacity out.old ≤ capacity out.new }
+{
+    let mut field = [0; 2];
+    BigEndian::write_u16(&mut field, n);
+    out.put(&field);
+}
+
 /// Adds a number of 32 bits into the free room.
 pub fn put_u32(out: &mut Bytes, n: u32)
     requires { 4 ≤ out.old.room }

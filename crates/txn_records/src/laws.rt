@@ -1,4 +1,5 @@
 //! The laws of the grammar, each as the contract of a call that does nothing.
+ghost use Rattle.txn_records.specs.Acks.{AckRecordsDecode, AckRecordsAreOne, AckRecordsReadBack};
 ghost use Rattle.txn_records.specs.Catalog.{NameRecordsDecode, NameRecordsAreOne, NameRecordsReadBack};
 ghost use Rattle.txn_records.specs.Coords.{CoordRecordsDecode, CoordRecordsAreOne, CoordRecordsReadBack};
 ghost use Rattle.txn_records.specs.Topics.{TopicRecordsDecode, TopicRecordsAreOne, TopicRecordsReadBack};
@@ -46,4 +47,19 @@ pub fn name_records_are_one()
 /// The record of a name is read as that name.
 pub fn name_records_read_back()
     ensures { NameRecordsReadBack }
+{}
+
+/// The entry that is read off the bytes of a record of a subscription's ledger is the one that it is the record of.
+pub fn ack_records_decode()
+    ensures { AckRecordsDecode }
+{}
+
+/// A record of a subscription's ledger stands for one entry.
+pub fn ack_records_are_one()
+    ensures { AckRecordsAreOne }
+{}
+
+/// The record of a subscription's entry is read as that entry.
+pub fn ack_records_read_back()
+    ensures { AckRecordsReadBack }
 {}

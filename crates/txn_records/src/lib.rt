@@ -1,14 +1,19 @@
 //! The records of the five ledgers as bytes: every writer and every reader of their grammar.
 #![tactic(auto)]
 
+mod ack;
+mod ack_write;
 mod coord;
 mod error;
 mod fields;
 mod laws;
 mod name;
+mod places;
 mod topic;
 mod topic_write;
 
+pub use ack::read_ack;
+pub use ack_write::{put_ack_marker, write_ack};
 pub use coord::{put_coord, read_coord, write_coord};
 pub use error::RecordError;
 pub use laws::{
