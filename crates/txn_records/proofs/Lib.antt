@@ -1,6 +1,10 @@
 pub mod AckRecords
 pub mod Catalog
 pub mod Coords
+pub mod EndLists
+pub mod EndsOne
 pub mod Numbers
+pub mod Pieces
 pub mod PlaceLists
+pub mod SnapshotBatch
 pub mod Topics

@@ -1,4 +1,5 @@
 pub mod Acks
 pub mod Catalog
 pub mod Coords
+pub mod EndsRead
 pub mod Topics

@@ -105,6 +105,19 @@ pub fn take_txn(bytes: &[u8]) -> Option<(TxnId, &[u8])>
     Some((TxnId { most, least }, &bytes[16..]))
 }
 
+/// The number of 64 bits at the front, and what stands behind it. None where there are fewer than 8 bytes.
+pub fn take_u64(bytes: &[u8]) -> Option<(u64, &[u8])>
+    ensures some { IfSome result (λ p. bytes.now ≡ big_bytes 8 p.0 ++ p.1.now) }
+    ensures fits { IfSome result (λ p. IsWord p.0) }
+    ensures none { IfNone result (length bytes.now < 8) }
+{
+    if bytes.len() < 8 {
+        return None;
+    }
+    let (front, rest) = bytes.split_at(8);
+    Some((BigEndian::read_u64(front), rest))
+}
+
 /// The transaction that these bytes are.
 pub fn only_txn(bytes: &[u8]) -> Option<TxnId>
     ensures some { IfSome result (λ txn. (bytes.now ≡ txn_bytes txn) × IsTxnId txn) }

@@ -4,11 +4,13 @@
 mod ack;
 mod ack_write;
 mod coord;
+mod ends;
 mod error;
 mod fields;
 mod laws;
 mod name;
 mod places;
+mod snapshot;
 mod topic;
 mod topic_write;
 
@@ -22,5 +24,6 @@ pub use laws::{
     topic_records_read_back,
 };
 pub use name::{is_name, read_name, write_name};
+pub use snapshot::{ends_count, read_snapshot, write_ends, write_head};
 pub use topic::{read_topic, topic_body, topic_skeleton_of};
 pub use topic_write::{marker_record, opened_record, plain_record, put_marker, write_topic};
