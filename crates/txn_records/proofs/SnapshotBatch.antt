@@ -1,13 +1,17 @@
 -- The batch of a snapshot.
-use Rattle.std.proofs.Common.{◌≡◌, ℕ, ◌+◌, ◌<◌, ◌≤◌, List, [], ◌∷◌, length, drop, get_or, sym, ap, ◌∙◌, arith}
+use Rattle.std.proofs.Common.{◌≡◌, ℕ, zero, suc, ◌+◌, ◌*◌, ◌<◌, ◌≤◌, List, [], ◌∷◌, ◌++◌, length, take, drop, get_or, refl, sym, ap, ◌∙◌, arith}
 use Rattle.std.specs.Prelude.{All, AllPairs}
+use Rattle.std.proofs.lemmas.List.{length-drop, take-append-drop}
+use Rattle.std.proofs.lemmas.List.Elements.{All-take, All-drop}
 use Rattle.byteorder.specs.Endian.{big_bytes, big_number}
 use Rattle.txn_base.specs.declared.txn.TxnId.{TxnId}
 use Rattle.txn_base.specs.declared.txn.Decision.{Decision}
 use Rattle.txn_base.specs.declared.snapshot.Snapshot.{Snapshot}
 use Rattle.txn_base.specs.Frames.{Record, Batch}
 use Rattle.txn_base.specs.Records.{IsEnd, IsWord, IsHeadRecord, head_record}
-use Rattle.txn_base.specs.Snapshots.{IsSnapshotBatch, IsSnapshot, ComesBefore, ends_records}
+use Rattle.txn_base.specs.Snapshots.{IsSnapshotBatch, IsSnapshot, ComesBefore, ends_records, snapshot_batch}
+use Rattle.txn_records.specs.SnapshotLaws.{EndsRecordsAreOne, SnapshotBatchesAreOne, SnapshotsReadBack}
+use Rattle.txn_records.proofs.EndsOne.{ends_one}
 use Rattle.txn_records.proofs.Numbers.{number_read}
 use Rattle.txn_records.proofs.Pieces.{count_at_most}
 
@@ -53,3 +57,30 @@ snapshot_joined batch head rest entries limit total ends split is behind counted
       split ∙ ap (λ (r : Record). r ∷ rest) (is.bytes_are ∙ ap (head_record entries limit) (sym counted)) ∙ ap (λ (l : List Record). head_record entries limit (length ends) ∷ l) behind;
   fits = record { entries_fit = is.entries_fit; limit_fits = is.limit_fits; few = omega (arith, counted, small); each = each; ascending = ascending };
 }
+
+pub ends_record_one : EndsRecordsAreOne
+ends_record_one bytes a b one two = ends_one a b one.each two.each (sym one.bytes_are ∙ two.bytes_are)
+
+pieces_one : (n : ℕ) (a b : List (TxnId × Decision)) → length a ≤ 3000 * n → length b ≤ 3000 * n → All IsEnd a → All IsEnd b → ends_records n a ≡ ends_records n b → a ≡ b
+pieces_one zero [] [] few less p q e = refl
+pieces_one zero [] (y ∷ b) few less p q e = absurd (omega arith)
+pieces_one zero (x ∷ a) b few less p q e = absurd (omega arith)
+pieces_one (suc n) [] [] few less p q e = refl
+pieces_one (suc n) [] (y ∷ b) few less p q e = absurd (omega (arith, ap length e))
+pieces_one (suc n) (x ∷ a) [] few less p q e = absurd (omega (arith, ap length e))
+pieces_one (suc n) (x ∷ a) (y ∷ b) few less p q e =
+    let taken = ends_one (take 3000 (x ∷ a)) (take 3000 (y ∷ b)) (All-take IsEnd 3000 (x ∷ a) p) (All-take IsEnd 3000 (y ∷ b) q) (ap (λ (l : List Record). get_or l 0 []) e) in
+    let left = pieces_one n (drop 3000 (x ∷ a)) (drop 3000 (y ∷ b)) (omega (arith, length-drop 3000 (x ∷ a))) (omega (arith, length-drop 3000 (y ∷ b))) (All-drop IsEnd 3000 (x ∷ a) p) (All-drop IsEnd 3000 (y ∷ b) q) (ap (drop 1) e) in
+    sym (take-append-drop 3000 (x ∷ a)) ∙ ap (λ (l : List (TxnId × Decision)). l ++ drop 3000 (x ∷ a)) taken ∙ ap (λ (l : List (TxnId × Decision)). take 3000 (y ∷ b) ++ l) left ∙ take-append-drop 3000 (y ∷ b)
+
+pub snapshot_one : SnapshotBatchesAreOne
+snapshot_one batch a b one two =
+    let same = sym one.records_are ∙ two.records_are in
+    let heads : head_record a.entries a.limit (length a.ends) ≡ head_record b.entries b.limit (length b.ends) = ap (λ (l : List Record). get_or l 0 []) same in
+    let entries = word_one a.entries b.entries one.fits.entries_fit two.fits.entries_fit (ap (λ (l : List ℕ). take 8 (drop 2 l)) heads) in
+    let limits = word_one a.limit b.limit one.fits.limit_fits two.fits.limit_fits (ap (λ (l : List ℕ). take 8 (drop 10 l)) heads) in
+    let ends = pieces_one 63 a.ends b.ends one.fits.few two.fits.few one.fits.each two.fits.each (ap (drop 1) same) in
+    λ i. record { entries = entries i; limit = limits i; ends = ends i }
+
+pub snapshot_reads_back : SnapshotsReadBack
+snapshot_reads_back snap read fits is = snapshot_one (snapshot_batch snap) read snap is record { records_are = refl; fits = fits }

@@ -2,4 +2,5 @@ pub mod Acks
 pub mod Catalog
 pub mod Coords
 pub mod EndsRead
+pub mod SnapshotLaws
 pub mod Topics

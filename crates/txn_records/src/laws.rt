@@ -2,6 +2,7 @@
 ghost use Rattle.txn_records.specs.Acks.{AckRecordsDecode, AckRecordsAreOne, AckRecordsReadBack};
 ghost use Rattle.txn_records.specs.Catalog.{NameRecordsDecode, NameRecordsAreOne, NameRecordsReadBack};
 ghost use Rattle.txn_records.specs.Coords.{CoordRecordsDecode, CoordRecordsAreOne, CoordRecordsReadBack};
+ghost use Rattle.txn_records.specs.SnapshotLaws.{EndsRecordsAreOne, SnapshotBatchesAreOne, SnapshotsReadBack};
 ghost use Rattle.txn_records.specs.Topics.{TopicRecordsDecode, TopicRecordsAreOne, TopicRecordsReadBack};
 
 /// The entry that is read off a topic record's bytes is the one that it is the record of.
@@ -62,4 +63,19 @@ pub fn ack_records_are_one()
 /// The record of a subscription's entry is read as that entry.
 pub fn ack_records_read_back()
     ensures { AckRecordsReadBack }
+{}
+
+/// A record of a snapshot's ends stands for one list of them.
+pub fn ends_records_are_one()
+    ensures { EndsRecordsAreOne }
+{}
+
+/// A batch of a snapshot file stands for one snapshot.
+pub fn snapshot_batches_are_one()
+    ensures { SnapshotBatchesAreOne }
+{}
+
+/// The batch of a snapshot is read as that snapshot.
+pub fn snapshots_read_back()
+    ensures { SnapshotsReadBack }
 {}

@@ -22,8 +22,9 @@ pub use coord::{put_coord, read_coord, write_coord};
 pub use error::RecordError;
 pub use laws::{
     ack_records_are_one, ack_records_decode, ack_records_read_back, coord_records_are_one,
-    coord_records_decode, coord_records_read_back, name_records_are_one, name_records_decode,
-    name_records_read_back, topic_records_are_one, topic_records_decode, topic_records_read_back,
+    coord_records_decode, coord_records_read_back, ends_records_are_one, name_records_are_one,
+    name_records_decode, name_records_read_back, snapshot_batches_are_one, snapshots_read_back,
+    topic_records_are_one, topic_records_decode, topic_records_read_back,
 };
 pub use name::{is_name, read_name, write_name};
 pub use snapshot::{ends_count, read_snapshot, write_ends, write_head};
