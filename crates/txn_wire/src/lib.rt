@@ -10,6 +10,8 @@ mod short;
 mod short_pieces;
 mod short_refusals;
 mod short_replies;
+#[cfg(test)]
+mod tests;
 mod values;
 mod words;
 
