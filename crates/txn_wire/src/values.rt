@@ -150,7 +150,8 @@ pub(crate) fn bodies_of(alloc: Global, value: &Value) -> Result<Texts, WireError
         return Err(WireError::BadLine);
     };
     if items.is_empty() {
-        return Err(WireError::BadLine);
+        Err(WireError::BadLine)
+    } else {
+        texts_of(alloc, items.as_slice())
     }
-    texts_of(alloc, items.as_slice())
 }
