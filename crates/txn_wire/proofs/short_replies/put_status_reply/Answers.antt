@@ -1,8 +1,0 @@
-use Rattle.std.proofs.Common.{append_assoc}
-use Rattle.json.specs.Print.{escape_byte}
-use Rattle.txn_wire.proofs.short_replies.put_status_reply.Goals as goal
-
-pub returns-clause-bytes : goal.returns-clause-bytes
-unfolding escape_byte
-returns-clause-bytes c =
-    rw (c.put_str-2.ensures.bytes, c.put_status.ensures.bytes, c.put_str.ensures.bytes) (simp append_assoc)
