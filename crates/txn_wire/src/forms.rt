@@ -1,5 +1,4 @@
 //! The request of each form.
-ghost use Rattle.std.specs.Prelude.{◌≡◌};
 ghost use Rattle.serde_json.specs.View.{view};
 ghost use Rattle.txn_wire.specs.Lines.{Gives};
 ghost use Rattle.txn_wire.specs.Forms.{new_of, add_of, publish_of, ack_of, ack_upto_of, only_txn_of, read_of, receive_of, redeliver_of, bare_of};
@@ -92,7 +91,7 @@ pub(crate) fn only_txn(value: &Value) -> Result<TxnId, WireError>
 }
 
 #[tactic(auto, unfolding(crate::specs::Forms::read_of))]
-pub(crate) fn read_of_value(alloc: Global, value: &Value) -> Result<Request, WireError>
+pub(crate) fn read_topic_request(alloc: Global, value: &Value) -> Result<Request, WireError>
     ensures { Gives (λ r. r) result (read_of (view value.now)) }
 {
     let topic = own_text_at(alloc, value, "topic")?;

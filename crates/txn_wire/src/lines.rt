@@ -1,12 +1,11 @@
 //! The request of a line.
-ghost use Rattle.std.specs.Prelude.{◌≡◌};
 ghost use Rattle.serde_json.specs.View.{view};
 ghost use Rattle.txn_wire.specs.Lines.{Gives, form_of, request_of_data, request_of};
 
 use crate::error::WireError;
 use crate::forms::{
     ack_request, ack_upto_request, add_request, bare_request, new_request, only_txn,
-    publish_request, read_of_value, receive_request, redeliver_request,
+    publish_request, read_topic_request, receive_request, redeliver_request,
 };
 use crate::values::text_at;
 use serde_json::Value;
@@ -65,7 +64,7 @@ fn request_of_form(alloc: Global, name: &str, value: &Value) -> Result<Request, 
         let txn = only_txn(value)?;
         Ok(Request::Status { txn })
     } else if name == "read" {
-        read_of_value(alloc, value)
+        read_topic_request(alloc, value)
     } else if name == "receive" {
         receive_request(alloc, value)
     } else if name == "redeliver" {

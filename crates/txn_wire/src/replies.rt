@@ -1,8 +1,8 @@
 //! The text of a reply, as the JSON library writes it.
 ghost use Rattle.std.specs.Prelude.{◌≡◌, IfOk};
-ghost use Rattle.serde_json.specs.Data.{array, object};
+ghost use Rattle.serde_json.specs.Data.{array};
 ghost use Rattle.serde_json.specs.View.{view};
-ghost use Rattle.txn_wire.specs.Replies.{done, ended_members, id_data, messages_data, message_data, reply_data, text_of};
+ghost use Rattle.txn_wire.specs.Replies.{done, id_data, messages_data, message_data, reply_data, text_of};
 
 use crate::refusals::refusal_value;
 use crate::words::{decision_word, status_word, why_word};
