@@ -12,6 +12,7 @@ pub mod Ack
 pub mod AckRules
 pub mod Full
 pub mod Delivery
+pub mod Lists
 pub mod World
 pub mod Table
 pub mod Shape

@@ -1,5 +1,5 @@
 //! Laws of single lists. Each function does nothing, and its contract is the law.
-ghost use Rattle.std.specs.Prelude.{◌≡◌, ◌<◌, ◌≤◌, ◌++◌, [], ◌∷◌, ℕ, List, length, flat_map, true, not, Some, None};
+ghost use Rattle.std.specs.Prelude.{◌≡◌, ◌<◌, ◌≤◌, ◌++◌, [], ◌∷◌, ℕ, List, length, map, flat_map, true, not, Some, None};
 ghost use Rattle.std.specs.List.{list_all};
 ghost use mathlib.Core.List.{IsPrefix};
 ghost use Rattle.txn_base.specs.declared.txn.TxnId.{TxnId};
@@ -8,6 +8,8 @@ ghost use Rattle.txn_base.specs.declared.core_entry.CoreEntry.{CoreEntry};
 ghost use Rattle.txn_base.specs.declared.entry.TopicEntry.{TopicEntry};
 ghost use Rattle.txn_base.specs.declared.entry.AckEntry.{AckEntry};
 ghost use Rattle.txn_model.specs.Words.{has, first_bad, IsFirstBad};
+ghost use Rattle.txn_base.specs.Entries.{bare};
+ghost use Rattle.txn_model.specs.Skeletons.{topic_skeletons};
 ghost use Rattle.txn_model.specs.Cut.{whole_lines, last_piece};
 ghost use Rattle.txn_model.specs.Entries.{are_plain, messages_from};
 ghost use Rattle.txn_model.specs.Names.{NamesLawful, name_allows};
@@ -63,4 +65,11 @@ pub fn lines_are_the_input()
     ensures whole { (input : List ℕ) → flat_map (λ line. line ++ 10 ∷ []) (whole_lines input) ++ last_piece input ≡ input }
     ensures lines { (input : List ℕ) → list_all (λ line. not (has line 10)) (whole_lines input) ≡ true }
     ensures piece { (input : List ℕ) → not (has (last_piece input) 10) ≡ true }
+{}
+
+/// The room behind the bodies of a topic's list is no matter.
+pub fn rooms_are_no_matter()
+    ensures skeletons { (es : List TopicEntry) → topic_skeletons (map bare es) ≡ topic_skeletons es }
+    ensures limit { (es : List TopicEntry) → limit_of (map bare es) ≡ limit_of es }
+    ensures visible { (es : List TopicEntry) → visible_of (map bare es) ≡ visible_of es }
 {}
