@@ -11,8 +11,15 @@ fn after_a_commit_both_messages_are_shown(rt: HostRuntime) -> Result<(), Fail> {
     let alloc = rt.alloc();
     let b = Bytes::from_slice(alloc, "b".as_bytes())?;
     let c = Bytes::from_slice(alloc, "c".as_bytes())?;
-    let opened = TopicEntry::Opened { txn: FIRST, body: b };
-    let list = vec![in alloc; opened, TopicEntry::Plain { body: c }, TopicEntry::Commit { txn: FIRST }]?;
+    let opened = TopicEntry::Opened {
+        txn: FIRST,
+        body: b,
+    };
+    let list = vec![in alloc;
+        opened,
+        TopicEntry::Plain { body: c },
+        TopicEntry::Commit { txn: FIRST },
+    ]?;
 
     assert_eq!(rt; limit_of(list.as_slice()), 3);
     assert_eq!(rt; marker_of(list.as_slice(), FIRST), Some(Decision::Commit));
