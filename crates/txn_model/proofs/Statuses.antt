@@ -46,7 +46,7 @@ last_snoc f (y ∷ xs) e = ap (λ o. option_or o (f y)) (last_snoc f xs e) ∙ t
     three None b c = refl
     three (Some v) b c = refl
 
-txn_equal : (x y : TxnId) → same_txn x y ≡ true → x ≡ y
+pub txn_equal : (x y : TxnId) → same_txn x y ≡ true → x ≡ y
 txn_equal x y h =
     ap (λ m. make m x.least) (eqb-true x.most y.most (and_l (x.most == y.most) (x.least == y.least) h)) ∙ ap (λ l. make y.most l) (eqb-true x.least y.least (and_r (x.most == y.most) (x.least == y.least) h))
   where
@@ -57,7 +57,7 @@ or_none : {V : Type 0} (o : Option V) → option_or o None ≡ o
 or_none None = refl
 or_none (Some v) = refl
 
-open_means : (n : Bool) (k d : Option Decision) → is_open (status_by n (last_by k d)) ≡ true → (n ≡ true) × (k ≡ None) × (d ≡ None)
+pub open_means : (n : Bool) (k d : Option Decision) → is_open (status_by n (last_by k d)) ≡ true → (n ≡ true) × (k ≡ None) × (d ≡ None)
 open_means false k d h = absurd (no_true h)
 open_means true (Some Commit) d h = absurd (no_true h)
 open_means true (Some Abort) d h = absurd (no_true h)

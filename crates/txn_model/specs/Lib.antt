@@ -17,6 +17,7 @@ pub mod World
 pub mod Table
 pub mod Shape
 pub mod Sound
+pub mod Allowed
 pub mod Requests
 pub mod EarlyRows
 pub mod LateRows

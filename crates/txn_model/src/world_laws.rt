@@ -8,6 +8,7 @@ ghost use Rattle.txn_model.specs.Entries.{are_plain, message_entry};
 ghost use Rattle.txn_model.specs.World.{Lawful, Extends, Flights, PlainFlights, kept};
 ghost use Rattle.txn_model.specs.Table.{Batch, in_topic, world_with};
 ghost use Rattle.txn_model.specs.Shape.{Shaped, IsFor, topic_parts, sub_parts};
+ghost use Rattle.txn_model.specs.Allowed.{AllowedFlights, IsAllowed};
 ghost use Rattle.txn_model.specs.Opening.{names_with, world_named};
 
 /// A world keeps the lists that its names ask for: each topic and each subscription has one, in order.
@@ -48,4 +49,10 @@ pub fn plain_messages_are_lawful()
 
     // The entries of a publish without a transaction.
     ensures entries { (bodies : List (List ℕ)) → are_plain (map (message_entry None) bodies) ≡ true }
+{}
+
+/// A lawful world stays lawful under a batch that is allowed over it, and whatever a stop keeps of allowed flights.
+pub fn allowed_batches_are_lawful()
+    ensures batch { (b : Batch) (w : World) → Lawful w → IsAllowed b w → Lawful (world_with b w) }
+    ensures kept { (w : World) (f : Flights) (stays : ℕ → Bool) → Lawful w → AllowedFlights w f → Lawful (kept w f stays) }
 {}
