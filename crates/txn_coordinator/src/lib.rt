@@ -1,0 +1,6 @@
+//! The coordinator: the part that gives numbers to transactions, adds parts to them and decides how they end.
+#![tactic(auto)]
+
+mod ahead;
+mod row;
+mod table;
