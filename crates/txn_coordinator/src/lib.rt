@@ -2,5 +2,9 @@
 #![tactic(auto)]
 
 mod ahead;
+mod error;
+mod log_entry;
 mod row;
 mod table;
+
+pub use error::CoordError;

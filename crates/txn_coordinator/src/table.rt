@@ -5,7 +5,7 @@ ghost use Rattle.txn_model.specs.Skeletons.{coord_skeleton, coord_skeletons};
 ghost use Rattle.txn_model.specs.Coord.{coord_allows, count_new, status_of, in_parts, decision_of};
 ghost use Rattle.txn_model.specs.Deadlines.{is_closed, is_undriven, low_of, first_undriven};
 ghost use Rattle.std.specs.Int.{bit_at};
-ghost use Rattle.txn_coordinator.specs.Table.{IsRowOf, IsPassed, IsLow, AreEntries, HasRow, rows_with, decision_in};
+ghost use Rattle.txn_coordinator.specs.Table.{IsRowOf, IsPassed, IsLow, AreEntries, HasRow, rows_with, decision_in, is_new_entry};
 ghost use Rattle.txn_coordinator.specs.declared.row.Row.{Row};
 
 use crate::row::{Row, txn_in};
@@ -155,7 +155,7 @@ impl Table {
     pub fn apply(&mut self, entry: CoordEntry)
         requires fits { IsCoordEntry entry }
         requires allowed { coord_allows 62 (coord_skeletons self.old.front) (coord_skeleton entry) ≡ true }
-        requires room { 1 ≤ self.old.room }
+        requires room { is_new_entry entry ≡ true → 1 ≤ self.old.room }
         ensures front { self.new.front ≡ self.old.front ++ entry ∷ [] }
         ensures room { self.old.room ≤ self.new.room + 1 }
     {
@@ -211,7 +211,7 @@ fn is_closed(status: Status) -> bool
 fn write_row(rows: &mut Vec<Row>, entry: &CoordEntry)
     requires fits { IsCoordEntry entry.now }
     requires there { HasRow entry.now (length rows.old.items) }
-    requires room { vec_len rows.old < vec_capacity rows.old }
+    requires room { is_new_entry entry.now ≡ true → vec_len rows.old < vec_capacity rows.old }
     ensures rows { rows.new.items ≡ rows_with entry.now rows.old.items }
     ensures len { vec_len rows.new ≤ vec_len rows.old + 1 }
     ensures capacity { vec_capacity rows.new ≡ vec_capacity rows.old }

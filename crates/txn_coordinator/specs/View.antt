@@ -1,0 +1,83 @@
+-- What a coordinator is seen as.
+use Rattle.std.specs.Prelude.{◌≡◌, ℕ, ◌≤◌, Bool, false, IsTrue, List, [], ◌∷◌, ◌++◌, length, take, All}
+use Rattle.txn_base.specs.declared.entry.CoordEntry.{CoordEntry}
+use Rattle.txn_base.specs.declared.limits.Limits.{Limits}
+use Rattle.txn_base.specs.Content.{LedgerContent, settled, landed, begun}
+use Rattle.txn_base.specs.Frames.{Batch, records}
+use Rattle.txn_base.specs.Decoded.{coord_entries}
+use Rattle.txn_base.specs.Records.{IsCoordEntry, coord_record}
+use Rattle.txn_model.specs.Skeletons.{coord_skeletons}
+use Rattle.txn_model.specs.Coord.{CoordLawful}
+
+-- What its log holds; the entries that were replayed from it or added since, of which all its state speaks; whether these
+-- are all of the log's; how many closes have room reserved, 0 or 1; the low watermark when it was whole for the first
+-- time, and whether it was; its limits.
+pub record CoordView : Type 0 where
+  pub content : LedgerContent
+  pub front : List CoordEntry
+  pub whole : Bool
+  pub reserved : ℕ
+  pub opened_low : ℕ
+  pub was_whole : Bool
+  pub limits : Limits
+
+-- The number of records in its log.
+abbrev pub length_of : CoordView → ℕ
+length_of v = length (records v.content.batches)
+
+-- The batch of one entry.
+abbrev pub coord_batch : CoordEntry → Batch
+coord_batch e = coord_record e ∷ []
+
+-- With this entry behind the others.
+abbrev pub logged : CoordView → CoordEntry → CoordView
+logged v e =
+    record {
+      content = landed v.content (coord_batch e);
+      front = v.front ++ e ∷ [];
+      whole = v.whole;
+      reserved = v.reserved;
+      opened_low = v.opened_low;
+      was_whole = v.was_whole;
+      limits = v.limits;
+    }
+
+-- With this entry in flight, after its append failed: all that was rebuilt is thrown away.
+abbrev pub fenced : CoordView → CoordEntry → CoordView
+fenced v e =
+    record {
+      content = begun v.content (coord_batch e);
+      front = [];
+      whole = false;
+      reserved = 0;
+      opened_low = v.opened_low;
+      was_whole = v.was_whole;
+      limits = v.limits;
+    }
+
+-- With room for so many closes.
+abbrev pub reserving : ℕ → CoordView → CoordView
+reserving count v =
+    record {
+      content = v.content;
+      front = v.front;
+      whole = v.whole;
+      reserved = count;
+      opened_low = v.opened_low;
+      was_whole = v.was_whole;
+      limits = v.limits;
+    }
+
+-- The entries are the first of its log's. On a disk that doesn't tell what it holds, nobody knows whether they are.
+abbrev pub IsFrontOf : CoordView → Type 0
+IsFrontOf v = v.front ≡ take (length v.front) (coord_entries v.content.batches)
+
+-- What holds of every coordinator: the entries lie in their grammar, each is allowed after those before it, and the log
+-- has as many records at least; one that is whole has all of them, and its log is settled.
+pub record IsSound (v : CoordView) : Type 0 where
+  pub entries : All IsCoordEntry v.front
+  pub lawful : CoordLawful 62 (coord_skeletons v.front)
+  pub within : length v.front ≤ length_of v
+  pub all_of : IsTrue v.whole → length v.front ≡ length_of v
+  pub settled_when : IsTrue v.whole → v.content.standing ≡ settled
+  pub opened_when : IsTrue v.whole → IsTrue v.was_whole

@@ -1,0 +1,66 @@
+//! One entry more, in a log and in the table.
+ghost use Rattle.std.specs.Prelude.{◌≡◌, ◌≤◌, ◌+◌, ◌∷◌, [], ◌++◌, true, Err, OnOk, OnErr};
+ghost use Rattle.txn_base.specs.declared.file_id.FileId.{FileId};
+ghost use Rattle.txn_base.specs.Content.{settled, landed, begun, Backed, Appends};
+ghost use Rattle.txn_base.specs.Disk.{Since, HasPartCause};
+ghost use Rattle.txn_base.specs.Records.{IsCoordEntry};
+ghost use Rattle.txn_base.specs.Room.{capacity};
+ghost use Rattle.txn_model.specs.Skeletons.{coord_skeleton, coord_skeletons};
+ghost use Rattle.txn_model.specs.Coord.{coord_allows};
+ghost use Rattle.txn_coordinator.specs.Table.{is_new_entry};
+ghost use Rattle.txn_coordinator.specs.View.{coord_batch};
+
+use crate::table::Table;
+use std::slice;
+use txn_base::{Bytes, CoordEntry, Disk, Failed};
+use txn_ledger::RecordLog;
+use txn_records::put_coord;
+
+/// The length of the longest record of an entry, in bytes.
+pub const RECORD: usize = 26;
+
+/// The length of its frame.
+pub const FRAME: usize = 33;
+
+/// Adds an entry to a log and to its table. It takes no memory: the record is written into `bytes`. Where the append
+/// fails, the table is emptied.
+pub fn log_entry<D: Disk, R: RecordLog>(
+    log: &mut R,
+    table: &mut Table,
+    bytes: &mut Bytes,
+    disk: &mut D,
+    entry: CoordEntry,
+) -> Result<(), Failed>
+    requires settled { (R.content log.old).standing ≡ settled }
+    requires fits { IsCoordEntry entry }
+    requires allowed { coord_allows 62 (coord_skeletons table.old.front) (coord_skeleton entry) ≡ true }
+    requires table_room { is_new_entry entry ≡ true → 1 ≤ table.old.room }
+    requires bytes { 26 ≤ capacity bytes.old }
+    requires spare { 1 ≤ R.spare log.old }
+    requires room { 33 ≤ R.room log.old }
+    requires backed { Backed R.stands (D.image disk.old) (R.content log.old) }
+    ensures ok { OnOk result (R.content log.new ≡ landed (R.content log.old) (coord_batch entry)) }
+    ensures added { OnOk result (table.new.front ≡ table.old.front ++ entry ∷ []) }
+    ensures err { OnErr result (R.content log.new ≡ begun (R.content log.old) (coord_batch entry)) }
+    ensures emptied { OnErr result (table.new.front ≡ []) }
+    ensures spare { OnOk result (R.spare log.new + 1 ≡ R.spare log.old) }
+    ensures room { R.room log.old ≤ R.room log.new }
+    ensures bytes { 26 ≤ capacity bytes.new }
+    ensures backed { Backed R.stands (D.image disk.new) (R.content log.new) }
+    ensures images { Since D.moment D.image D.left_since (Appends R.mine R.stands (R.content log.old) (coord_batch entry)) disk.old disk.new }
+    ensures others { (other : FileId) → (R.mine (R.content log.old).key other → ⊥) → D.seen disk.new other ≡ D.seen disk.old other }
+    ensures cause { HasPartCause (R.content log.old).key.part (D.faults disk.old) (D.faults disk.new) (D.part_faults disk.old) (D.part_faults disk.new) result }
+{
+    bytes.clear();
+    put_coord(&entry, bytes);
+    match log.append(disk, slice::from_ref(bytes)) {
+        Ok(()) => {
+            table.apply(entry);
+            Ok(())
+        }
+        Err(failed) => {
+            table.clear();
+            Err(failed)
+        }
+    }
+}
