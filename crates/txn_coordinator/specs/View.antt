@@ -1,7 +1,9 @@
 -- What a coordinator is seen as.
-use Rattle.std.specs.Prelude.{◌≡◌, ℕ, ◌≤◌, Bool, false, IsTrue, List, [], ◌∷◌, ◌++◌, length, take, All}
+use Rattle.std.specs.Prelude.{◌≡◌, ℕ, ◌≤◌, Bool, false, if◌then◌else◌, IsTrue, List, [], ◌∷◌, ◌++◌, length, take, All}
 use Rattle.txn_base.specs.declared.entry.CoordEntry.{CoordEntry}
 use Rattle.txn_base.specs.declared.limits.Limits.{Limits}
+use Rattle.txn_base.specs.declared.part.PartState.{PartState}
+use Rattle.txn_base.specs.declared.part.PartState.TheVariants.{Whole, Mending}
 use Rattle.txn_base.specs.Content.{LedgerContent, settled, landed, begun}
 use Rattle.txn_base.specs.Frames.{Batch, records}
 use Rattle.txn_base.specs.Decoded.{coord_entries}
@@ -81,3 +83,32 @@ pub record IsSound (v : CoordView) : Type 0 where
   pub all_of : IsTrue v.whole → length v.front ≡ length_of v
   pub settled_when : IsTrue v.whole → v.content.standing ≡ settled
   pub opened_when : IsTrue v.whole → IsTrue v.was_whole
+
+-- How far the coordinator is.
+abbrev pub state_of : CoordView → PartState
+state_of v = if v.whole then Whole else Mending (length v.front) (length_of v)
+
+-- What a coordinator over this log is at first.
+abbrev pub first_view : LedgerContent → Limits → CoordView
+first_view content limits =
+    record {
+      content = content;
+      front = [];
+      whole = false;
+      reserved = 0;
+      opened_low = 0;
+      was_whole = false;
+      limits = limits;
+    }
+
+-- What a coordinator keeps of its fields: the number of its entries, room in the log for a close that was reserved, and
+-- room for a record.
+pub record IsKept (content : LedgerContent) (front : List CoordEntry) (at : ℕ) (whole was_whole reserved : Bool) (spare room bytes : ℕ) : Type 0 where
+  pub at_is : at ≡ length front
+  pub within : length front ≤ length (records content.batches)
+  pub all_of : IsTrue whole → length front ≡ length (records content.batches)
+  pub settled_when : IsTrue whole → content.standing ≡ settled
+  pub opened_when : IsTrue whole → IsTrue was_whole
+  pub spare_when : IsTrue reserved → 1 ≤ spare
+  pub room_when : IsTrue reserved → 33 ≤ room
+  pub bytes_room : 26 ≤ bytes

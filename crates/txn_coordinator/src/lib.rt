@@ -2,9 +2,12 @@
 #![tactic(auto)]
 
 mod ahead;
+mod coordinator;
+mod decisions;
 mod error;
 mod log_entry;
 mod row;
 mod table;
 
+pub use coordinator::Coordinator;
 pub use error::CoordError;

@@ -1,0 +1,206 @@
+//! The calls that add an entry.
+ghost use Rattle.std.specs.Prelude.{◌≡◌, ◌≤◌, ◌+◌, ◌^◌, ℕ, true, false, None, Err, IsTrue, IsOk, IfOk, IfErr, OnOk, OnErr, MatchOption, if◌then◌else◌};
+ghost use Rattle.txn_base.specs.declared.file_id.FileId.{FileId};
+ghost use Rattle.txn_base.specs.Content.{Backed, Appends};
+ghost use Rattle.txn_base.specs.Disk.{Since, HasPartCause, CountsFaults};
+ghost use Rattle.txn_base.specs.Records.{IsCoordEntry, IsTxnId};
+ghost use Rattle.txn_model.specs.Skeletons.{coord_skeleton, coord_skeletons};
+ghost use Rattle.txn_model.specs.Coord.{coord_allows, is_open};
+ghost use Rattle.txn_model.specs.Deadlines.{is_undriven};
+ghost use Rattle.txn_coordinator.specs.View.{coord_batch, logged, fenced, reserving, IsFrontOf};
+ghost use Rattle.txn_coordinator.specs.Calls.{MayFail, begin_refusal, next_txn, add_refusal, has_part, status_in_view, with_part, decide_refusal, decide_entry, decided, decided_status, closing_entry};
+
+use crate::coordinator::Coordinator;
+use crate::decisions::{close_entry, decide_entry, deciding};
+use crate::error::CoordError;
+use crate::log_entry::{FRAME, log_entry};
+use std::alloc::AllocError;
+use txn_base::{CoordEntry, Decision, Disk, Failed, Status, TxnId, What};
+use txn_ledger::RecordLog;
+
+impl<R: RecordLog> Coordinator<R> {
+    /// Reserves room for the close of a transaction, which other calls keep.
+    pub fn reserve_close(&mut self) -> Result<(), AllocError>
+        ensures ok { OnOk result (self.new ≡ reserving 1 self.old) }
+        ensures err { OnErr result (self.new ≡ self.old) }
+    {
+        self.log.reserve(1, FRAME)?;
+        self.reserved = true;
+        Ok(())
+    }
+
+    /// Adds an entry, beside the room that is reserved for a close.
+    fn add_entry<D: Disk>(&mut self, disk: &mut D, entry: CoordEntry) -> Result<(), CoordError>
+        requires whole { IsTrue (self.old).whole }
+        requires fits { IsCoordEntry entry }
+        requires allowed { coord_allows 62 (coord_skeletons (self.old).front) (coord_skeleton entry) ≡ true }
+        requires backed { Backed R.stands (D.image disk.old) (self.old).content }
+        ensures failed { MayFail result }
+        ensures ok { OnOk result (self.new ≡ logged self.old entry) }
+        ensures fault { result ≡ Err CoordError.Fault → self.new ≡ fenced self.old entry }
+        ensures no_memory { result ≡ Err CoordError.NoMemory → self.new ≡ self.old }
+        ensures tied { IsFrontOf self.old → IsFrontOf self.new }
+        ensures backed { Backed R.stands (D.image disk.new) (self.new).content }
+        ensures images { Since D.moment D.image D.left_since (Appends R.mine R.stands (self.old).content (coord_batch entry)) disk.old disk.new }
+        ensures others { (other : FileId) → (R.mine (self.old).content.key other → ⊥) → D.seen disk.new other ≡ D.seen disk.old other }
+        ensures cause { CountsFaults (self.old).content.key.part (D.faults disk.old) (D.faults disk.new) (D.part_faults disk.old) (D.part_faults disk.new) (result ≡ Err CoordError.Fault) }
+    {
+        self.log.reserve(2, FRAME)?;
+        self.table.reserve(1)?;
+        match log_entry(&mut self.log, &mut self.table, &mut self.bytes, disk, entry) {
+            Ok(()) => {
+                self.at = self.log.len();
+                Ok(())
+            }
+            Err(Failed) => {
+                self.at = 0;
+                self.whole = false;
+                self.reserved = false;
+                Err(CoordError::Fault)
+            }
+        }
+    }
+
+    /// The id of the transaction that is begun next.
+    fn next_txn(&self) -> TxnId
+        ensures { result ≡ next_txn self.now }
+    {
+        TxnId {
+            most: 0,
+            least: self.table.count(),
+        }
+    }
+
+    /// Begins a transaction, with a deadline so many milliseconds after `now`, which is at most 2^62. It gets the next
+    /// number.
+    pub fn begin<D: Disk>(
+        &mut self,
+        disk: &mut D,
+        now: u64,
+        timeout: u64,
+    ) -> Result<TxnId, CoordError>
+        requires whole { IsTrue (self.old).whole }
+        requires now { now ≤ 2 ^ 62 }
+        requires backed { Backed R.stands (D.image disk.old) (self.old).content }
+        ensures refused { MatchOption (begin_refusal self.old timeout) (MayFail result) (λ refusal. result ≡ Err refusal) }
+        ensures told { IfOk result (λ txn. txn ≡ next_txn self.old) }
+        ensures ok { OnOk result (self.new ≡ logged self.old (CoordEntry.New (next_txn self.old) (now + timeout))) }
+        ensures fault { result ≡ Err CoordError.Fault → self.new ≡ fenced self.old (CoordEntry.New (next_txn self.old) (now + timeout)) }
+        ensures same { IfErr result (λ e. (e ≡ CoordError.Fault → ⊥) → self.new ≡ self.old) }
+        ensures tied { IsFrontOf self.old → IsFrontOf self.new }
+        ensures backed { Backed R.stands (D.image disk.new) (self.new).content }
+        ensures images { Since D.moment D.image D.left_since (Appends R.mine R.stands (self.old).content (coord_batch (CoordEntry.New (next_txn self.old) (now + timeout)))) disk.old disk.new }
+        ensures others { (other : FileId) → (R.mine (self.old).content.key other → ⊥) → D.seen disk.new other ≡ D.seen disk.old other }
+        ensures cause { CountsFaults (self.old).content.key.part (D.faults disk.old) (D.faults disk.new) (D.part_faults disk.old) (D.part_faults disk.new) (result ≡ Err CoordError.Fault) }
+    {
+        let _ = &self.table;
+        if let Some(refusal) = self.begin_refusal(timeout) {
+            return Err(refusal);
+        }
+        let txn = self.next_txn();
+        let deadline = now + timeout;
+        self.add_entry(disk, CoordEntry::New { txn, deadline })?;
+        Ok(txn)
+    }
+
+    /// Adds a part, from 1 to 62, to an open transaction. A part that it has already changes nothing.
+    pub fn add<D: Disk>(&mut self, disk: &mut D, txn: TxnId, part: u32) -> Result<(), CoordError>
+        requires whole { IsTrue (self.old).whole }
+        requires least { 1 ≤ part }
+        requires most { part ≤ 62 }
+        requires backed { Backed R.stands (D.image disk.old) (self.old).content }
+        ensures refused { MatchOption (add_refusal self.old txn part) (MayFail result) (λ refusal. result ≡ Err refusal) }
+        ensures repeated { add_refusal self.old txn part ≡ None → has_part self.old txn part ≡ true → IsOk result }
+        ensures ok { OnOk result (self.new ≡ with_part self.old txn part) }
+        ensures fault { result ≡ Err CoordError.Fault → self.new ≡ fenced self.old (CoordEntry.AddPart txn part) }
+        ensures same { IfErr result (λ e. (e ≡ CoordError.Fault → ⊥) → self.new ≡ self.old) }
+        ensures tied { IsFrontOf self.old → IsFrontOf self.new }
+        ensures backed { Backed R.stands (D.image disk.new) (self.new).content }
+        ensures images { Since D.moment D.image D.left_since (Appends R.mine R.stands (self.old).content (coord_batch (CoordEntry.AddPart txn part))) disk.old disk.new }
+        ensures others { (other : FileId) → (R.mine (self.old).content.key other → ⊥) → D.seen disk.new other ≡ D.seen disk.old other }
+        ensures cause { CountsFaults (self.old).content.key.part (D.faults disk.old) (D.faults disk.new) (D.part_faults disk.old) (D.part_faults disk.new) (result ≡ Err CoordError.Fault) }
+    {
+        if let Some(refusal) = self.add_refusal(txn, part) {
+            return Err(refusal);
+        }
+        if self.table.has_part(txn, part) {
+            return Ok(());
+        }
+        self.add_entry(disk, CoordEntry::AddPart { txn, part })
+    }
+
+    /// Decides how an open transaction ends, and answers its status. The same decision again changes nothing.
+    pub fn decide<D: Disk>(
+        &mut self,
+        disk: &mut D,
+        txn: TxnId,
+        decision: Decision,
+    ) -> Result<Status, CoordError>
+        requires whole { IsTrue (self.old).whole }
+        requires backed { Backed R.stands (D.image disk.old) (self.old).content }
+        ensures refused { MatchOption (decide_refusal self.old txn decision) (MayFail result) (λ refusal. result ≡ Err refusal) }
+        ensures repeated { decide_refusal self.old txn decision ≡ None → is_open (status_in_view self.old txn) ≡ false → IsOk result }
+        ensures told { IfOk result (λ status. status ≡ decided_status self.old txn decision) }
+        ensures ok { OnOk result (self.new ≡ decided self.old txn decision) }
+        ensures fault { result ≡ Err CoordError.Fault → self.new ≡ fenced self.old (decide_entry txn decision) }
+        ensures same { IfErr result (λ e. (e ≡ CoordError.Fault → ⊥) → self.new ≡ self.old) }
+        ensures tied { IsFrontOf self.old → IsFrontOf self.new }
+        ensures backed { Backed R.stands (D.image disk.new) (self.new).content }
+        ensures images { Since D.moment D.image D.left_since (Appends R.mine R.stands (self.old).content (coord_batch (decide_entry txn decision))) disk.old disk.new }
+        ensures others { (other : FileId) → (R.mine (self.old).content.key other → ⊥) → D.seen disk.new other ≡ D.seen disk.old other }
+        ensures cause { CountsFaults (self.old).content.key.part (D.faults disk.old) (D.faults disk.new) (D.part_faults disk.old) (D.part_faults disk.new) (result ≡ Err CoordError.Fault) }
+    {
+        if let Some(refusal) = self.decide_refusal(txn, decision) {
+            return Err(refusal);
+        }
+        match self.table.status(txn) {
+            None => Err(CoordError::NotFound),
+            Some(Status::Open) => {
+                self.add_entry(disk, decide_entry(txn, decision))?;
+                Ok(deciding(decision))
+            }
+            Some(status) => Ok(status),
+        }
+    }
+
+    /// The entry that closes a decided transaction.
+    fn closing_entry(&self, txn: TxnId) -> CoordEntry
+        ensures entry { result ≡ closing_entry self.now txn }
+        ensures fits { IsCoordEntry result }
+        ensures allowed { is_undriven (status_in_view self.now txn) ≡ true → coord_allows 62 (coord_skeletons self.now.front) (coord_skeleton result) ≡ true }
+    {
+        let _count = self.table.count();
+        let decision = self.table.decision(txn).unwrap_or(Decision::Commit);
+        close_entry(txn, decision)
+    }
+
+    /// Closes a transaction that is decided and not closed, by its decision. It takes no memory, and uses up the room that
+    /// was reserved. Each part of the transaction has its marker by then: that is the caller's to see to.
+    pub fn close<D: Disk>(&mut self, disk: &mut D, txn: TxnId) -> Result<(), Failed>
+        requires whole { IsTrue (self.old).whole }
+        requires reserved { (self.old).reserved ≡ 1 }
+        requires undriven { is_undriven (status_in_view self.old txn) ≡ true }
+        requires backed { Backed R.stands (D.image disk.old) (self.old).content }
+        ensures ok { OnOk result (self.new ≡ reserving 0 (logged self.old (closing_entry self.old txn))) }
+        ensures fault { OnErr result (self.new ≡ fenced self.old (closing_entry self.old txn)) }
+        ensures tied { IsFrontOf self.old → IsFrontOf self.new }
+        ensures backed { Backed R.stands (D.image disk.new) (self.new).content }
+        ensures images { Since D.moment D.image D.left_since (Appends R.mine R.stands (self.old).content (coord_batch (closing_entry self.old txn))) disk.old disk.new }
+        ensures others { (other : FileId) → (R.mine (self.old).content.key other → ⊥) → D.seen disk.new other ≡ D.seen disk.old other }
+        ensures cause { HasPartCause (self.old).content.key.part (D.faults disk.old) (D.faults disk.new) (D.part_faults disk.old) (D.part_faults disk.new) result }
+    {
+        let entry = self.closing_entry(txn);
+        self.reserved = false;
+        match log_entry(&mut self.log, &mut self.table, &mut self.bytes, disk, entry) {
+            Ok(()) => {
+                self.at = self.log.len();
+                Ok(())
+            }
+            Err(failed) => {
+                self.at = 0;
+                self.whole = false;
+                Err(failed)
+            }
+        }
+    }
+}

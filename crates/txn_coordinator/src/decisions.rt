@@ -1,0 +1,36 @@
+//! The entries of a decision and of its close.
+ghost use Rattle.std.specs.Prelude.{◌≡◌};
+ghost use Rattle.txn_model.specs.Coord.{deciding};
+ghost use Rattle.txn_coordinator.specs.Calls.{decide_entry, close_entry};
+
+use txn_base::{CoordEntry, Decision, Status, TxnId};
+
+/// The entry that decides a transaction so.
+pub fn decide_entry(txn: TxnId, decision: Decision) -> CoordEntry
+    ensures { result ≡ decide_entry txn decision }
+{
+    match decision {
+        Decision::Commit => CoordEntry::Committing { txn },
+        Decision::Abort => CoordEntry::Aborting { txn },
+    }
+}
+
+/// The entry that closes a transaction by its decision.
+pub fn close_entry(txn: TxnId, decision: Decision) -> CoordEntry
+    ensures { result ≡ close_entry txn decision }
+{
+    match decision {
+        Decision::Commit => CoordEntry::Committed { txn },
+        Decision::Abort => CoordEntry::Aborted { txn },
+    }
+}
+
+/// The status of a transaction that is decided so and not closed.
+pub fn deciding(decision: Decision) -> Status
+    ensures { result ≡ deciding decision }
+{
+    match decision {
+        Decision::Commit => Status::Committing,
+        Decision::Abort => Status::Aborting,
+    }
+}
