@@ -41,3 +41,9 @@ ahead_more front ahead i d x row next are lt step is =
     (subst (λ (r : Option Row). IsRowOf ((front ++ take i ahead) ++ get_or ahead i d ∷ []) x r) (sym step)
     (row_more (front ++ take i ahead) (get_or ahead i d) x row (next_fits front ahead i d are.entries lt)
     (allowed_after (front ++ take i ahead) (get_or ahead i d) (drop (suc i) ahead) (subst (λ (l : List CoordEntry). CoordLawful 62 (coord_skeletons l)) (split_at front ahead i d lt) are.lawful)) is))
+
+pub next_allowed : (front ahead now_front : List CoordEntry) (i : ℕ) (d : CoordEntry) → AreEntries (front ++ ahead) → i < length ahead → now_front ≡ front ++ take i ahead
+    → coord_allows 62 (coord_skeletons now_front) (coord_skeleton (get_or ahead i d)) ≡ true
+next_allowed front ahead now_front i d are lt same =
+    ap (λ (l : List CoordEntry). coord_allows 62 (coord_skeletons l) (coord_skeleton (get_or ahead i d))) same
+    ∙ allowed_after (front ++ take i ahead) (get_or ahead i d) (drop (suc i) ahead) (subst (λ (l : List CoordEntry). CoordLawful 62 (coord_skeletons l)) (split_at front ahead i d lt) are.lawful)

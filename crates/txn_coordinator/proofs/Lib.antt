@@ -5,4 +5,6 @@ pub mod Entry
 pub mod Finding
 pub mod Fronts
 pub mod Records
+pub mod Replayed
 pub mod Rows
+pub mod Steps

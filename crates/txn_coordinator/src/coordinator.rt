@@ -16,6 +16,7 @@ use txn_base::{Bytes, Decision, Limits, PartState, Status, TxnId};
 use txn_ledger::RecordLog;
 
 mod changes;
+mod mend;
 mod refusals;
 
 /// Gives numbers to transactions, adds parts to them, and decides how they end. It keeps a log, and beside it the table

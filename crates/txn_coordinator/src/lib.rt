@@ -6,6 +6,7 @@ mod coordinator;
 mod decisions;
 mod error;
 mod log_entry;
+mod replay;
 mod row;
 mod table;
 

@@ -1,0 +1,48 @@
+-- Calls that read, one after the other.
+use Rattle.std.proofs.Common.{◌≡◌, ℕ, ◌+◌, ◌-◌, ◌^◌, ◌≤◌, ◌<◌, arith, min, List, [], ◌++◌, sym, ◌∙◌, subst}
+use Rattle.std.proofs.lemmas.List.{append-nil}
+use Rattle.txn_base.specs.declared.file_id.FileId.{FileId}
+use Rattle.txn_base.specs.Content.{LedgerContent, settled, Backed, KeptOrNot}
+use Rattle.txn_base.specs.Disk.{Files, Since, Same, CountsFaults}
+use Rattle.txn_base.specs.Frames.{Batch}
+use Rattle.txn_base.specs.Outside.{Rose}
+use Rattle.txn_base.proofs.Logs.{settled_stands}
+use Rattle.txn_base.proofs.Moments.{started, goes_on}
+
+-- what a settled log may be asked for
+pub begins_settled : (stands begins : FileId → Files → List Batch → Type 0) → ((key : FileId) (c : Files) (batches more : List Batch) → stands key c (batches ++ more) → begins key c batches)
+    → (image : Files → Type 0) (content : LedgerContent) → content.standing ≡ settled → Backed stands image content → (c : Files) → image c → begins content.key c content.batches
+begins_settled stands begins stands_begins image content is backed c at =
+    stands_begins content.key c content.batches [] (subst (λ (l : List Batch). stands content.key c l) (sym (append-nil content.batches)) (settled_stands stands image content is backed c at))
+
+module _ {D : Type 0} (moment : D → ℕ) (image : D → Files → Type 0) (left_since : D → ℕ → Files → Type 0) where
+  pub same_started : (disk : D) → Since moment image left_since Same disk disk
+  same_started disk = started moment image left_since disk Same (λ c at i. c)
+
+  pub same_then : (old mid new : D) → Since moment image left_since Same old mid → Since moment image left_since Same mid new → Since moment image left_since Same old new
+  same_then old mid new one two = goes_on moment image left_since Same Same Same old mid new one two (λ d c at is. is) (λ d e c at first mid_at second. second ∙ first)
+
+  pub backed_same : (stands : FileId → Files → List Batch → Type 0) (content : LedgerContent) (old new : D) → Since moment image left_since Same old new → Backed stands (image old) content → Backed stands (image new) content
+  backed_same stands content old new since backed =
+      record { each = λ c at. let d = since.at_end c at in subst (λ (f : Files). KeptOrNot (stands content.key f) content.batches content.standing) (sym d.2) (backed.each d.0 d.1) }
+
+rose_later : (b m n : ℕ) → b ≤ m → Rose m n → Rose b n
+rose_later b m n le rose = omega (arith, le, rose)
+
+pub faults_none : (part b : ℕ) (pb : ℕ → ℕ) → CountsFaults part b b pb pb ⊥
+faults_none part b pb = record { later = omega arith; parts_later = λ p. omega arith; failed = λ h. absurd h; others = λ p lt ne i. pb p }
+
+pub faults_quiet : (part b n : ℕ) (pb pn : ℕ → ℕ) (P : Type 0) → CountsFaults part b n pb pn P → CountsFaults part b n pb pn ⊥
+faults_quiet part b n pb pn P is = record { later = is.later; parts_later = is.parts_later; failed = λ h. absurd h; others = is.others }
+
+pub faults_then : (part b m n : ℕ) (pb pm pn : ℕ → ℕ) (P : Type 0) → CountsFaults part b m pb pm ⊥ → CountsFaults part m n pm pn P → CountsFaults part b n pb pn P
+faults_then part b m n pb pm pn P one two = record {
+  later = omega (arith, one.later, two.later);
+  parts_later = λ p. omega (arith, one.parts_later p, two.parts_later p);
+  failed = λ h. (rose_later b m n one.later (two.failed h).0, rose_later (pb part) (pm part) (pn part) (one.parts_later part) (two.failed h).1);
+  others = λ p lt ne. two.others p lt ne ∙ one.others p lt ne;
+}
+
+-- a call that didn't fail says of another failure what one says that never comes
+pub faults_only : (part b n : ℕ) (pb pn : ℕ → ℕ) (P Q : Type 0) → (Q → P) → CountsFaults part b n pb pn P → CountsFaults part b n pb pn Q
+faults_only part b n pb pn P Q less is = record { later = is.later; parts_later = is.parts_later; failed = λ h. is.failed (less h); others = is.others }

@@ -1,0 +1,21 @@
+use Rattle.std.proofs.Common.{◌≡◌, ℕ, ◌+◌, ◌-◌, ◌≤◌, List, ◌++◌, length, take, vec_capacity}
+use Rattle.txn_base.specs.Content.{Backed}
+use Rattle.txn_base.specs.Decoded.{coord_entries}
+use Rattle.txn_base.specs.Disk.{Since, Same, CountsFaults}
+use Rattle.txn_coordinator.specs.Mending.{AreRecordsFrom}
+use Rattle.txn_coordinator.specs.Table.{AreEntries}
+use Rattle.txn_coordinator.proofs.replay.stage.Given as goal
+
+abbrev pub invariant-loop-place : goal.invariant-loop-place
+invariant-loop-place g l = record {
+  count : length l.staged.items + l.at ≡ l.place;
+  room : l.end ≤ vec_capacity l.staged + l.at;
+  entries : AreEntries (l.table.front ++ l.staged.items);
+  read : g.D.Disk.tells → AreRecordsFrom (g.R.RecordLog.content l.log) l.at l.staged.items;
+  tied : g.D.Disk.tells → l.table.front ≡ take l.at (coord_entries (g.R.RecordLog.content l.log).batches) → l.table.front ++ l.staged.items ≡ take l.place (coord_entries (g.R.RecordLog.content l.log).batches);
+  counted : l.steps + l.at ≡ l.initial.steps + l.place;
+  seen : g.D.Disk.seen l.disk ≡ g.D.Disk.seen l.initial.disk;
+  images : Since g.D.Disk.moment g.D.Disk.image g.D.Disk.left_since Same l.initial.disk l.disk;
+  backed : Backed g.R.RecordLog.stands (g.D.Disk.image l.disk) (g.R.RecordLog.content l.log);
+  cause : CountsFaults (g.R.RecordLog.content l.log).key.part (g.D.Disk.faults l.initial.disk) (g.D.Disk.faults l.disk) (g.D.Disk.part_faults l.initial.disk) (g.D.Disk.part_faults l.disk) ⊥;
+}

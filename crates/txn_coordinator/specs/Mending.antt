@@ -1,0 +1,51 @@
+-- What a step of a coordinator's replay does.
+use Rattle.std.specs.Prelude.{◌≡◌, ◌⊎◌, ◌↔◌, ℕ, ◌+◌, ◌<◌, ◌≤◌, min, ◌||◌, false, if◌then◌else◌, IsTrue, List, [], length, take, slice_index_or, Result, IfErr}
+use Rattle.txn_base.specs.declared.entry.CoordEntry.{CoordEntry}
+use Rattle.txn_base.specs.declared.part.MendError.{MendError}
+use Rattle.txn_base.specs.declared.part.MendError.TheVariants.{Damaged}
+use Rattle.txn_base.specs.Content.{LedgerContent, kept, dropped}
+use Rattle.txn_base.specs.Frames.{Record, records}
+use Rattle.txn_base.specs.Records.{IsCoordRecord}
+use Rattle.txn_base.specs.Decoded.{coord_entries}
+use Rattle.txn_model.specs.Skeletons.{coord_skeleton, coord_skeletons}
+use Rattle.txn_model.specs.Coord.{coord_allows, CoordLawful}
+use Rattle.txn_model.specs.Deadlines.{low_of}
+use Rattle.txn_coordinator.specs.View.{CoordView, length_of}
+
+-- In a ledger, the record at a place.
+abbrev pub record_at : LedgerContent → ℕ → Record
+record_at content place = slice_index_or (records content.batches) place []
+
+-- From this place on, the records of a ledger are those of these entries.
+abbrev pub AreRecordsFrom : LedgerContent → ℕ → List CoordEntry → Type 0
+AreRecordsFrom content at entries = (k : ℕ) (e : CoordEntry) → k < length entries → IsCoordRecord (record_at content (at + k)) (slice_index_or entries k e)
+
+-- The record at this place is the first that is outside its grammar, or isn't allowed after those before it.
+pub record IsBadRecord (content : LedgerContent) (place : ℕ) : Type 0 where
+  pub within : place < length (records content.batches)
+  pub before : CoordLawful 62 (coord_skeletons (take place (coord_entries content.batches)))
+  pub bad : (e : CoordEntry) → IsCoordRecord (record_at content place) e → coord_allows 62 (coord_skeletons (take place (coord_entries content.batches))) (coord_skeleton e) ≡ false
+
+-- What was in flight stands there now, or was dropped. Where nothing was, the two are the same.
+abbrev pub IsSettledFrom : LedgerContent → LedgerContent → Type 0
+IsSettledFrom old new = (new ≡ kept old) ⊎ (new ≡ dropped old)
+
+-- A step that isn't refused: it settles the log, and adds the entries of the next records, `step` of them or all that are
+-- left. The low watermark of the opening is that of the moment when the coordinator is whole for the first time.
+pub record Mends (old new : CoordView) : Type 0 where
+  pub settles : IsSettledFrom old.content new.content
+  pub grows : length new.front ≡ min (length_of new) (length old.front + old.limits.step)
+  pub extends : old.front ≡ take (length old.front) new.front
+  pub whole : IsTrue new.whole ↔ (length new.front ≡ length_of new)
+  pub opened : new.opened_low ≡ (if old.was_whole then old.opened_low else (if new.whole then low_of new.front else old.opened_low))
+  pub was_whole : new.was_whole ≡ (old.was_whole || new.whole)
+  pub limits : new.limits ≡ old.limits
+
+-- A step that is refused: it may have settled the log, and nothing else changes.
+pub record Stays (old new : CoordView) : Type 0 where
+  pub settles : (new.content ≡ old.content) ⊎ IsSettledFrom old.content new.content
+  pub front : new.front ≡ old.front
+  pub whole : new.whole ≡ old.whole
+  pub opened : new.opened_low ≡ old.opened_low
+  pub was_whole : new.was_whole ≡ old.was_whole
+  pub limits : new.limits ≡ old.limits

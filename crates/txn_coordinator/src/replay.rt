@@ -1,0 +1,102 @@
+//! The next records of a log, read and tested.
+ghost use Rattle.std.specs.Prelude.{◌≡◌, ◌≤◌, ◌<◌, ◌+◌, ◌++◌, ◌∷◌, [], false, ℕ, length, take, Err, IfOk, IfErr, OnOk, OnErr, slice_index_or};
+ghost use Rattle.txn_base.specs.declared.entry.CoordEntry.{CoordEntry};
+ghost use Rattle.txn_base.specs.Content.{settled, Backed};
+ghost use Rattle.txn_base.specs.Decoded.{coord_entry_of, coord_entries};
+ghost use Rattle.txn_base.specs.Disk.{Since, Same, CountsFaults};
+ghost use Rattle.txn_base.specs.Frames.{records};
+ghost use Rattle.txn_base.specs.Records.{IsCoordEntry, IsCoordRecord};
+ghost use Rattle.txn_model.specs.Skeletons.{coord_skeleton, coord_skeletons};
+ghost use Rattle.txn_model.specs.Coord.{coord_allows};
+ghost use Rattle.txn_coordinator.specs.Mending.{record_at, AreRecordsFrom, IsBadRecord};
+ghost use Rattle.txn_coordinator.specs.Table.{AreEntries};
+
+use crate::ahead::allows;
+use crate::table::Table;
+use std::alloc::Global;
+use std::sync::ledger;
+use txn_base::{CoordEntry, Disk, MendError, Steps};
+use txn_ledger::{GetError, RecordLog};
+use txn_records::read_coord;
+
+/// Reads a record and its entry.
+fn read_entry<D: Disk, L: ledger::Ledger, R: RecordLog>(
+    alloc: Global,
+    log: &R,
+    disk: &mut D,
+    place: u64,
+    steps: &mut Steps<L>,
+) -> Result<CoordEntry, MendError>
+    requires place { place < length (records (R.content log.now).batches) }
+    requires settled { (R.content log.now).standing ≡ settled }
+    requires backed { Backed R.stands (D.image disk.old) (R.content log.now) }
+    ensures fits { IfOk result IsCoordEntry }
+    ensures read { D.tells → IfOk result (IsCoordRecord (record_at (R.content log.now) place)) }
+    ensures damaged { (at : ℕ) → result ≡ Err (MendError.Damaged at) → at ≡ place }
+    ensures bad { D.tells → result ≡ Err (MendError.Damaged place) → (e : CoordEntry) → IsCoordRecord (record_at (R.content log.now) place) e → ⊥ }
+    ensures counted { steps.new ≡ steps.old + 1 }
+    ensures seen { D.seen disk.new ≡ D.seen disk.old }
+    ensures images { Since D.moment D.image D.left_since Same disk.old disk.new }
+    ensures cause { CountsFaults (R.content log.now).key.part (D.faults disk.old) (D.faults disk.new) (D.part_faults disk.old) (D.part_faults disk.new) (result ≡ Err MendError.Fault) }
+{
+    match log.get(alloc, disk, place, steps) {
+        Ok(bytes) => match read_coord(bytes.as_slice()) {
+            Some(entry) => Ok(entry),
+            None => Err(MendError::Damaged { place }),
+        },
+        Err(GetError::Fault) => Err(MendError::Fault),
+        Err(GetError::NoMemory) => Err(MendError::NoMemory),
+    }
+}
+
+/// Reads the records from the table's length to `end`, and tests each against those before it.
+pub fn stage<D: Disk, L: ledger::Ledger, R: RecordLog>(
+    alloc: Global,
+    log: &R,
+    table: &Table,
+    disk: &mut D,
+    at: u64,
+    end: u64,
+    steps: &mut Steps<L>,
+) -> Result<Vec<CoordEntry>, MendError>
+    requires at { at ≡ length table.now.front }
+    requires order { at ≤ end }
+    requires within { end ≤ length (records (R.content log.now).batches) }
+    requires kept { AreEntries table.now.front }
+    requires settled { (R.content log.now).standing ≡ settled }
+    requires backed { Backed R.stands (D.image disk.old) (R.content log.now) }
+    ensures entries { IfOk result (λ staged. AreEntries (table.now.front ++ staged.items)) }
+    ensures count { IfOk result (λ staged. length staged.items + at ≡ end) }
+    ensures read { D.tells → IfOk result (λ staged. AreRecordsFrom (R.content log.now) at staged.items) }
+    ensures tied { D.tells → table.now.front ≡ take at (coord_entries (R.content log.now).batches) → IfOk result (λ staged. table.now.front ++ staged.items ≡ take end (coord_entries (R.content log.now).batches)) }
+    ensures damaged { (place : ℕ) → result ≡ Err (MendError.Damaged place) → (at ≤ place) × (place < end) }
+    ensures bad { D.tells → table.now.front ≡ take at (coord_entries (R.content log.now).batches) → (place : ℕ) → result ≡ Err (MendError.Damaged place) → IsBadRecord (R.content log.now) place }
+    ensures counted { OnOk result (steps.new + at ≡ steps.old + end) }
+    ensures few { steps.new + at ≤ steps.old + end }
+    ensures seen { D.seen disk.new ≡ D.seen disk.old }
+    ensures images { Since D.moment D.image D.left_since Same disk.old disk.new }
+    ensures cause { CountsFaults (R.content log.now).key.part (D.faults disk.old) (D.faults disk.new) (D.part_faults disk.old) (D.part_faults disk.new) (result ≡ Err MendError.Fault) }
+{
+    let Ok(mut staged) = Vec::with_capacity(alloc, (end - at) as usize) else {
+        return Err(MendError::NoMemory);
+    };
+    for place in at..end {
+        let entry = read_entry(alloc, log, disk, place, steps)?;
+        if !allows(table, staged.as_slice(), &entry) {
+            return Err(MendError::Damaged { place });
+        }
+        staged.push_reserved(entry);
+    }
+    Ok(staged)
+}
+
+/// Adds entries to a table, which has room for them.
+pub fn apply_all(table: &mut Table, staged: &[CoordEntry])
+    requires entries { AreEntries (table.old.front ++ staged.now) }
+    requires room { length staged.now ≤ table.old.room }
+    ensures { table.new.front ≡ table.old.front ++ staged.now }
+{
+    for entry in staged {
+        table.apply(*entry);
+    }
+}
