@@ -1,13 +1,14 @@
 -- The entries of a coordinator beside those of its log.
-use Rattle.std.proofs.Common.{◌≡◌, ℕ, ◌≤◌, arith, List, [], ◌∷◌, ◌++◌, length, map, take, refl, sym, ap, ◌∙◌, subst}
-use Rattle.std.proofs.lemmas.List.{take_all, length-map}
+use Rattle.std.proofs.Common.{◌≡◌, ℕ, ◌≤◌, arith, ⊎_elim, List, [], ◌∷◌, ◌++◌, length, map, take, refl, sym, ap, ◌∙◌, subst}
+use Rattle.std.proofs.lemmas.List.{take_all, take-append-le, length-map, map-append}
 use Rattle.txn_base.specs.declared.entry.CoordEntry.{CoordEntry}
-use Rattle.txn_base.specs.Content.{LedgerContent, landed}
+use Rattle.txn_base.specs.Content.{LedgerContent, Standing, settled, in_flight, looked_at, landed, with_flight}
 use Rattle.txn_base.specs.Frames.{Batch, records}
 use Rattle.txn_base.specs.Records.{IsCoordEntry}
 use Rattle.txn_base.specs.Decoded.{coord_entry_of, coord_entries}
+use Rattle.txn_coordinator.specs.Mending.{IsSettledFrom}
 use Rattle.txn_coordinator.specs.View.{coord_batch}
-use Rattle.txn_coordinator.proofs.Applied.{coord_entries-push}
+use Rattle.txn_coordinator.proofs.Applied.{records-push, coord_entries-push}
 
 -- with one more in both
 pub tied_more : (s0 s1 s2 : LedgerContent) (f0 f1 f2 : List CoordEntry) (e : CoordEntry) → IsCoordEntry e → length f0 ≡ length (records s0.batches)
@@ -17,3 +18,20 @@ tied_more s0 s1 s2 f0 f1 f2 e fits all same grown front added was =
     let now_log : coord_entries s2.batches ≡ coord_entries s0.batches ++ e ∷ [] = ap (λ (s : LedgerContent). coord_entries s.batches) (grown ∙ ap (λ (s : LedgerContent). landed s (coord_batch e)) same) ∙ coord_entries-push s0.batches e fits in
     let now_front : f2 ≡ coord_entries s2.batches = added ∙ ap (λ (f : List CoordEntry). f ++ e ∷ []) (front ∙ whole) ∙ sym now_log in
     now_front ∙ sym (take_all (length f2) (coord_entries s2.batches) (omega (arith, ap length now_front)))
+
+entries-append : (a : List Batch) (b : Batch) → coord_entries (a ++ b ∷ []) ≡ coord_entries a ++ map coord_entry_of b
+entries-append a b = ap (map coord_entry_of) (records-push a b) ∙ map-append coord_entry_of (records a) b
+
+-- with what was in flight or without
+kept_front : (batches : List Batch) (standing : Standing) (n : ℕ) → n ≤ length (records batches) → take n (coord_entries (with_flight batches standing)) ≡ take n (coord_entries batches)
+kept_front batches settled n le = refl
+kept_front batches looked_at n le = refl
+kept_front batches (in_flight batch) n le =
+    ap (take n) (entries-append batches batch) ∙ take-append-le n (coord_entries batches) (map coord_entry_of batch) (omega (arith, le, length-map (records batches) coord_entry_of))
+
+pub front_settled : (s t : LedgerContent) (front : List CoordEntry) (at : ℕ) → at ≡ length front → length front ≤ length (records s.batches) → IsSettledFrom s t → front ≡ take (length front) (coord_entries s.batches) → front ≡ take at (coord_entries t.batches)
+front_settled s t front at is within how was =
+    was ∙ ⊎_elim
+    (λ kept_one. sym (ap (λ (c : LedgerContent). take (length front) (coord_entries c.batches)) kept_one ∙ kept_front s.batches s.standing (length front) within))
+    (λ dropped_one. sym (ap (λ (c : LedgerContent). take (length front) (coord_entries c.batches)) dropped_one))
+    how ∙ ap (λ n. take n (coord_entries t.batches)) (sym is)

@@ -20,6 +20,10 @@ record_at content place = slice_index_or (records content.batches) place []
 abbrev pub AreRecordsFrom : LedgerContent → ℕ → List CoordEntry → Type 0
 AreRecordsFrom content at entries = (k : ℕ) (e : CoordEntry) → k < length entries → IsCoordRecord (record_at content (at + k)) (slice_index_or entries k e)
 
+-- From this place to before that one, the records of a ledger are those of these entries, at the same places.
+abbrev pub AreRecordsTo : LedgerContent → ℕ → ℕ → List CoordEntry → Type 0
+AreRecordsTo content from to entries = (k : ℕ) (e : CoordEntry) → from ≤ k → k < to → IsCoordRecord (record_at content k) (slice_index_or entries k e)
+
 -- The record at this place is the first that is outside its grammar, or isn't allowed after those before it.
 pub record IsBadRecord (content : LedgerContent) (place : ℕ) : Type 0 where
   pub within : place < length (records content.batches)
@@ -39,6 +43,7 @@ pub record Mends (old new : CoordView) : Type 0 where
   pub whole : IsTrue new.whole ↔ (length new.front ≡ length_of new)
   pub opened : new.opened_low ≡ (if old.was_whole then old.opened_low else (if new.whole then low_of new.front else old.opened_low))
   pub was_whole : new.was_whole ≡ (old.was_whole || new.whole)
+  pub reserved : new.reserved ≡ (if old.whole then old.reserved else 0)
   pub limits : new.limits ≡ old.limits
 
 -- A step that is refused: it may have settled the log, and nothing else changes.
@@ -48,4 +53,5 @@ pub record Stays (old new : CoordView) : Type 0 where
   pub whole : new.whole ≡ old.whole
   pub opened : new.opened_low ≡ old.opened_low
   pub was_whole : new.was_whole ≡ old.was_whole
+  pub reserved : new.reserved ≡ 0
   pub limits : new.limits ≡ old.limits

@@ -8,7 +8,7 @@ ghost use Rattle.txn_base.specs.Frames.{records};
 ghost use Rattle.txn_base.specs.Records.{IsCoordEntry, IsCoordRecord};
 ghost use Rattle.txn_model.specs.Skeletons.{coord_skeleton, coord_skeletons};
 ghost use Rattle.txn_model.specs.Coord.{coord_allows};
-ghost use Rattle.txn_coordinator.specs.Mending.{record_at, AreRecordsFrom, IsBadRecord};
+ghost use Rattle.txn_coordinator.specs.Mending.{record_at, AreRecordsFrom, AreRecordsTo, IsBadRecord};
 ghost use Rattle.txn_coordinator.specs.Table.{AreEntries};
 
 use crate::ahead::allows;
@@ -99,4 +99,42 @@ pub fn apply_all(table: &mut Table, staged: &[CoordEntry])
     for entry in staged {
         table.apply(*entry);
     }
+}
+
+/// Reads the records from the table's length to `end`, and adds their entries to the table. Where one is refused, none is
+/// added.
+pub fn replay<D: Disk, L: ledger::Ledger, R: RecordLog>(
+    alloc: Global,
+    log: &R,
+    table: &mut Table,
+    disk: &mut D,
+    at: u64,
+    end: u64,
+    steps: &mut Steps<L>,
+) -> Result<(), MendError>
+    requires at { at ≡ length table.old.front }
+    requires order { at ≤ end }
+    requires within { end ≤ length (records (R.content log.now).batches) }
+    requires settled { (R.content log.now).standing ≡ settled }
+    requires backed { Backed R.stands (D.image disk.old) (R.content log.now) }
+    ensures grown { OnOk result (length table.new.front ≡ end) }
+    ensures extends { OnOk result (table.old.front ≡ take at table.new.front) }
+    ensures same { OnErr result (table.new.front ≡ table.old.front) }
+    ensures read { D.tells → OnOk result (AreRecordsTo (R.content log.now) at end table.new.front) }
+    ensures tied { D.tells → table.old.front ≡ take at (coord_entries (R.content log.now).batches) → OnOk result (table.new.front ≡ take end (coord_entries (R.content log.now).batches)) }
+    ensures damaged { (place : ℕ) → result ≡ Err (MendError.Damaged place) → (at ≤ place) × (place < end) }
+    ensures bad { D.tells → table.old.front ≡ take at (coord_entries (R.content log.now).batches) → (place : ℕ) → result ≡ Err (MendError.Damaged place) → IsBadRecord (R.content log.now) place }
+    ensures counted { OnOk result (steps.new + at ≡ steps.old + end) }
+    ensures few { steps.new + at ≤ steps.old + end }
+    ensures seen { D.seen disk.new ≡ D.seen disk.old }
+    ensures images { Since D.moment D.image D.left_since Same disk.old disk.new }
+    ensures cause { CountsFaults (R.content log.now).key.part (D.faults disk.old) (D.faults disk.new) (D.part_faults disk.old) (D.part_faults disk.new) (result ≡ Err MendError.Fault) }
+{
+    let _count = table.count();
+    let staged = stage(alloc, log, table, disk, at, end, steps)?;
+    if table.reserve(staged.len()).is_err() {
+        return Err(MendError::NoMemory);
+    }
+    apply_all(table, staged.as_slice());
+    Ok(())
 }

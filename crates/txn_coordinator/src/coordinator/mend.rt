@@ -1,23 +1,18 @@
 //! The replay of the log, in steps.
-ghost use Rattle.std.specs.Prelude.{◌≡◌, ◌⊎◌, ◌≤◌, ◌<◌, ◌+◌, ℕ, length, min, take, Err, IsErr, IsTrue, IsOk, IfOk, IfErr, OnOk, OnErr, slice_index_or};
+ghost use Rattle.std.specs.Prelude.{◌≡◌, ◌≤◌, ◌<◌, ◌+◌, ℕ, length, Err, IsErr, IsTrue, IsOk, IfOk, OnOk, OnErr, if◌then◌else◌};
 ghost use Rattle.txn_base.specs.declared.file_id.FileId.{FileId};
-ghost use Rattle.txn_base.specs.declared.entry.CoordEntry.{CoordEntry};
-ghost use Rattle.txn_base.specs.Content.{settled, looked_at, Backed, Settles};
-ghost use Rattle.txn_base.specs.Decoded.{coord_entries};
-ghost use Rattle.txn_base.specs.Disk.{Since, Same, CountsFaults};
-ghost use Rattle.txn_base.specs.Frames.{records};
-ghost use Rattle.txn_base.specs.Records.{IsCoordRecord};
-ghost use Rattle.txn_coordinator.specs.Mending.{record_at, AreRecordsFrom, IsBadRecord, IsSettledFrom, Mends, Stays};
-ghost use Rattle.txn_coordinator.specs.Table.{AreEntries};
+ghost use Rattle.txn_base.specs.Content.{looked_at, Backed, Settles};
+ghost use Rattle.txn_base.specs.Disk.{Since, CountsFaults};
+ghost use Rattle.txn_coordinator.specs.Mending.{AreRecordsTo, IsBadRecord, IsSettledFrom, Mends, Stays};
+ghost use Rattle.txn_model.specs.Deadlines.{low_of};
 ghost use Rattle.txn_coordinator.specs.View.{length_of, IsFrontOf};
 
 use crate::coordinator::Coordinator;
-use crate::replay::{apply_all, stage};
+use crate::replay::replay;
 use crate::table::Table;
-use std::alloc::Global;
 use std::sync::ledger;
 use txn_base::{Disk, Failed, MendError, Progress, Steps};
-use txn_ledger::{RecordLog, Settled};
+use txn_ledger::RecordLog;
 
 /// Settles a log that isn't settled.
 fn settle_log<D: Disk, R: RecordLog>(log: &mut R, disk: &mut D) -> Result<(), Failed>
@@ -36,5 +31,72 @@ fn settle_log<D: Disk, R: RecordLog>(log: &mut R, disk: &mut D) -> Result<(), Fa
     match log.settle(disk) {
         Ok(_) => Ok(()),
         Err(failed) => Err(failed),
+    }
+}
+
+/// The low watermark of the opening: that of the moment when a coordinator is whole for the first time.
+fn opening_low(before: u64, was_whole: bool, whole: bool, table: &Table) -> u64
+    ensures { result ≡ (if was_whole then before else (if whole then low_of table.now.front else before)) }
+{
+    if was_whole || !whole {
+        return before;
+    }
+    table.low()
+}
+
+impl<R: RecordLog> Coordinator<R> {
+    /// Settles the log, and adds the entries of its next records: `step` of them, or all that are left. Each is read once.
+    /// A step that is refused adds none of them. On a coordinator that is whole it does nothing.
+    pub fn mend_step<D: Disk, L: ledger::Ledger>(
+        &mut self,
+        disk: &mut D,
+        steps: &mut Steps<L>,
+    ) -> Result<Progress, MendError>
+        requires standing { (self.old).content.standing ≡ looked_at → ⊥ }
+        requires backed { Backed R.stands (D.image disk.old) (self.old).content }
+        ensures already { IsTrue (self.old).whole → IsOk result }
+        ensures nothing { IsTrue (self.old).whole → self.new ≡ self.old }
+        ensures ok { OnOk result (Mends self.old self.new) }
+        ensures told { IfOk result (λ progress. progress ≡ record { at = length (self.new).front; total = length_of self.new }) }
+        ensures err { OnErr result (Stays self.old self.new) }
+        ensures read { D.tells → OnOk result (AreRecordsTo (self.new).content (length (self.old).front) (length (self.new).front) (self.new).front) }
+        ensures damaged { (place : ℕ) → result ≡ Err (MendError.Damaged place) → (length (self.old).front ≤ place) × (place < length (self.old).front + (self.old).limits.step) }
+        ensures bad { D.tells → IsFrontOf self.old → (place : ℕ) → result ≡ Err (MendError.Damaged place) → IsBadRecord (self.new).content place }
+        ensures counted { OnOk result (steps.new + length (self.old).front ≡ steps.old + length (self.new).front) }
+        ensures few { steps.new ≤ steps.old + (self.old).limits.step }
+        ensures tied { D.tells → IsFrontOf self.old → IsFrontOf self.new }
+        ensures backed { Backed R.stands (D.image disk.new) (self.new).content }
+        ensures images { Since D.moment D.image D.left_since (Settles R.mine R.stands (self.old).content) disk.old disk.new }
+        ensures others { (other : FileId) → (R.mine (self.old).content.key other → ⊥) → D.seen disk.new other ≡ D.seen disk.old other }
+        ensures cause { CountsFaults (self.old).content.key.part (D.faults disk.old) (D.faults disk.new) (D.part_faults disk.old) (D.part_faults disk.new) (result ≡ Err MendError.Fault) }
+    {
+        let before = self.log.len();
+        if self.whole {
+            return Ok(Progress {
+                at: before,
+                total: before,
+            });
+        }
+        self.reserved = false;
+        if settle_log(&mut self.log, disk).is_err() {
+            return Err(MendError::Fault);
+        }
+        let total = self.log.len();
+        let end = total.min(self.at.saturating_add(self.limits.step));
+        replay(
+            self.alloc,
+            &self.log,
+            &mut self.table,
+            disk,
+            self.at,
+            end,
+            steps,
+        )?;
+        let whole = end == total;
+        self.opened_low = opening_low(self.opened_low, self.was_whole, whole, &self.table);
+        self.was_whole = self.was_whole || whole;
+        self.whole = whole;
+        self.at = end;
+        Ok(Progress { at: end, total })
     }
 }
