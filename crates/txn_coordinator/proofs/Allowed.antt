@@ -1,5 +1,5 @@
 -- The entries that calls add are allowed.
-use Rattle.std.proofs.Common.{◌≡◌, ℕ, Bool, true, false, if◌then◌else◌, List, Some, None, refl, sym, ap, ◌∙◌, subst, true≢false}
+use Rattle.std.proofs.Common.{◌≡◌, true, List, Some, None, refl, sym, ap, ◌∙◌, true≢false}
 use Rattle.std.specs.Prelude.{Option, unwrap_or}
 use Rattle.txn_base.specs.declared.txn.TxnId.{TxnId}
 use Rattle.txn_base.specs.declared.txn.Decision.{Decision}

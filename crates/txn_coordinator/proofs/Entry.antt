@@ -1,6 +1,6 @@
 -- What one entry more says of a transaction.
-use Rattle.std.proofs.Common.{◌≡◌, ℕ, ◌+◌, ◌*◌, ◌%◌, ◌^◌, ◌<◌, ◌≤◌, ◌==◌, eqb, eqb-true, eq-eqb, w64, arith, Bool, true, false, ◌&&◌, ◌||◌, if◌then◌else◌, List, [], ◌∷◌, ◌++◌, map, Some, None, refl, sym, ap, ◌∙◌, subst, true≢false}
-use Rattle.std.specs.Prelude.{Option, unwrap_or, bit_or, count_by}
+use Rattle.std.proofs.Common.{◌≡◌, ℕ, ◌*◌, ◌%◌, ◌^◌, ◌<◌, ◌==◌, eqb-true, eq-eqb, w64, arith, Bool, true, false, ◌&&◌, ◌||◌, if◌then◌else◌, List, [], ◌∷◌, ◌++◌, Some, None, refl, sym, ap, ◌∙◌, subst, true≢false}
+use Rattle.std.specs.Prelude.{Option, unwrap_or, bit_or}
 use Rattle.std.specs.Option.{option_or}
 use Rattle.std.specs.Int.{bit_at}
 use Rattle.std.proofs.lemmas.List.{map-append}
@@ -16,7 +16,7 @@ use Rattle.txn_base.specs.declared.core_entry.CoreEntry.{CoreEntry}
 use Rattle.txn_base.specs.Records.{IsCoordEntry}
 use Rattle.txn_model.specs.Words.{first_of, last_of}
 use Rattle.txn_model.specs.Skeletons.{same_txn, coord_skeleton, coord_skeletons}
-use Rattle.txn_model.specs.Coord.{has_new, is_new, is_add, says_status, status_of, in_parts, is_begin, count_new, is_open, is_deciding, coord_allows}
+use Rattle.txn_model.specs.Coord.{has_new, is_new, is_add, says_status, status_of, in_parts, is_open, is_deciding, coord_allows}
 use Rattle.txn_model.specs.Deadlines.{says_deadline}
 use Rattle.txn_model.proofs.Prefixes.{first_of-append}
 use Rattle.txn_coordinator.specs.declared.row.Row.{Row}

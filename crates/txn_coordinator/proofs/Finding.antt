@@ -1,5 +1,5 @@
 -- The first number that passes a test, and what a table finds.
-use Rattle.std.proofs.Common.{◌≡◌, ℕ, zero, suc, ◌+◌, ◌<◌, ◌≤◌, arith, ⊎_elim, Bool, true, false, cond, not, if◌then◌else◌, List, [], ◌∷◌, ◌++◌, length, get_or, Some, None, refl, sym, ap, ◌∙◌, subst, true≢false}
+use Rattle.std.proofs.Common.{◌≡◌, ℕ, zero, suc, ◌+◌, ◌<◌, ◌≤◌, arith, ⊎_elim, Bool, true, false, cond, not, List, [], ◌∷◌, length, get_or, Some, None, refl, sym, ap, ◌∙◌, subst, true≢false}
 use Rattle.std.specs.Prelude.{Option, map, find, option_map, unwrap_or}
 use Rattle.std.proofs.lemmas.Bool.{cases_lt}
 use Rattle.txn_base.specs.declared.txn.TxnId.{TxnId}
@@ -12,7 +12,7 @@ use Rattle.txn_base.specs.declared.core_entry.CoreEntry.{CoreEntry}
 use Rattle.txn_model.specs.Words.{numbers_from, below}
 use Rattle.txn_model.specs.Skeletons.{coord_skeletons}
 use Rattle.txn_model.specs.Coord.{has_new, count_new, status_of, decision_of, closing_of, CoordLawful}
-use Rattle.txn_model.specs.Deadlines.{txn, transactions, is_closed, is_undriven, low_of, first_undriven}
+use Rattle.txn_model.specs.Deadlines.{txn, is_closed, is_undriven, low_of, first_undriven}
 use Rattle.txn_model.proofs.Statuses.{Agrees, last_by, status_by, lawful_agrees}
 use Rattle.txn_coordinator.specs.declared.row.Row.{Row}
 use Rattle.txn_coordinator.specs.Table.{AreRows, IsTable, empty_row, decision_in}

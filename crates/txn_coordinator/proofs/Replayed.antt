@@ -1,5 +1,5 @@
 -- The records that a replay reads, one more.
-use Rattle.std.proofs.Common.{◌≡◌, ℕ, ◌+◌, ◌<◌, ◌≤◌, ⊎_elim, arith, Bool, true, false, List, [], ◌∷◌, ◌++◌, length, length-append, map, get_or, take, refl, sym, ap, ◌∙◌, subst}
+use Rattle.std.proofs.Common.{◌≡◌, ℕ, ◌+◌, ◌<◌, ⊎_elim, arith, Bool, true, false, List, [], ◌∷◌, ◌++◌, length, length-append, get_or, take, sym, ap, ◌∙◌, subst}
 use Rattle.std.proofs.lemmas.Bool.{cases_lt}
 use Rattle.std.proofs.lemmas.List.{append_assoc, take_more, get_or_append_left, length-map}
 use Rattle.std.proofs.Math.ListN.{get_or-map}
@@ -7,7 +7,7 @@ use Rattle.std.proofs.Math.Seq.{get_or-append_seam}
 use Rattle.txn_base.specs.declared.entry.CoordEntry.{CoordEntry}
 use Rattle.txn_base.specs.Content.{LedgerContent}
 use Rattle.txn_base.specs.Frames.{Record, records}
-use Rattle.txn_base.specs.Records.{IsCoordEntry, IsCoordRecord, coord_record}
+use Rattle.txn_base.specs.Records.{IsCoordEntry, IsCoordRecord}
 use Rattle.txn_base.specs.Decoded.{coord_entry_of, coord_entries}
 use Rattle.txn_model.specs.Skeletons.{coord_skeleton, coord_skeletons}
 use Rattle.txn_model.specs.Coord.{coord_allows, CoordLawful}

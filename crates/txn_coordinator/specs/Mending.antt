@@ -1,8 +1,6 @@
 -- What a step of a coordinator's replay does.
-use Rattle.std.specs.Prelude.{◌≡◌, ◌⊎◌, ◌↔◌, ℕ, ◌+◌, ◌<◌, ◌≤◌, min, ◌||◌, false, if◌then◌else◌, IsTrue, List, [], length, take, slice_index_or, Result, IfErr}
+use Rattle.std.specs.Prelude.{◌≡◌, ◌⊎◌, ◌↔◌, ℕ, ◌+◌, ◌<◌, ◌≤◌, min, ◌||◌, false, if◌then◌else◌, IsTrue, List, [], length, take, slice_index_or}
 use Rattle.txn_base.specs.declared.entry.CoordEntry.{CoordEntry}
-use Rattle.txn_base.specs.declared.part.MendError.{MendError}
-use Rattle.txn_base.specs.declared.part.MendError.TheVariants.{Damaged}
 use Rattle.txn_base.specs.Content.{LedgerContent, kept, dropped}
 use Rattle.txn_base.specs.Frames.{Record, records}
 use Rattle.txn_base.specs.Records.{IsCoordRecord}

@@ -1,5 +1,5 @@
 -- What a coordinator is seen as.
-use Rattle.std.specs.Prelude.{◌≡◌, ℕ, ◌≤◌, Bool, false, if◌then◌else◌, IsTrue, List, [], ◌∷◌, ◌++◌, length, take, All}
+use Rattle.std.specs.Prelude.{◌≡◌, ℕ, ◌≤◌, Bool, false, if◌then◌else◌, IsTrue, List, [], ◌∷◌, ◌++◌, length, take}
 use Rattle.txn_base.specs.declared.entry.CoordEntry.{CoordEntry}
 use Rattle.txn_base.specs.declared.limits.Limits.{Limits}
 use Rattle.txn_base.specs.declared.part.PartState.{PartState}
@@ -7,9 +7,7 @@ use Rattle.txn_base.specs.declared.part.PartState.TheVariants.{Whole, Mending}
 use Rattle.txn_base.specs.Content.{LedgerContent, settled, landed, begun}
 use Rattle.txn_base.specs.Frames.{Batch, records}
 use Rattle.txn_base.specs.Decoded.{coord_entries}
-use Rattle.txn_base.specs.Records.{IsCoordEntry, coord_record}
-use Rattle.txn_model.specs.Skeletons.{coord_skeletons}
-use Rattle.txn_model.specs.Coord.{CoordLawful}
+use Rattle.txn_base.specs.Records.{coord_record}
 
 -- What its log holds; the entries that were replayed from it or added since, of which all its state speaks; whether these
 -- are all of the log's; how many closes have room reserved, 0 or 1; the low watermark when it was whole for the first
@@ -73,16 +71,6 @@ reserving count v =
 -- The entries are the first of its log's. On a disk that doesn't tell what it holds, nobody knows whether they are.
 abbrev pub IsFrontOf : CoordView → Type 0
 IsFrontOf v = v.front ≡ take (length v.front) (coord_entries v.content.batches)
-
--- What holds of every coordinator: the entries lie in their grammar, each is allowed after those before it, and the log
--- has as many records at least; one that is whole has all of them, and its log is settled.
-pub record IsSound (v : CoordView) : Type 0 where
-  pub entries : All IsCoordEntry v.front
-  pub lawful : CoordLawful 62 (coord_skeletons v.front)
-  pub within : length v.front ≤ length_of v
-  pub all_of : IsTrue v.whole → length v.front ≡ length_of v
-  pub settled_when : IsTrue v.whole → v.content.standing ≡ settled
-  pub opened_when : IsTrue v.whole → IsTrue v.was_whole
 
 -- How far the coordinator is.
 abbrev pub state_of : CoordView → PartState

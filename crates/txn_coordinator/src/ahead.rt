@@ -1,9 +1,7 @@
 //! Whether an entry is allowed after those of a table and some that were not added yet.
-ghost use Rattle.std.specs.Prelude.{◌≡◌, ◌<◌, ◌≤◌, ◌+◌, ◌^◌, ◌++◌, true, false, length, All, count_by, Some, if◌then◌else◌, ℕ};
-ghost use Rattle.std.specs.Int.{bit_at};
-ghost use Rattle.txn_base.specs.Records.{IsCoordEntry};
+ghost use Rattle.std.specs.Prelude.{◌≡◌, ◌<◌, ◌^◌, ◌++◌, if◌then◌else◌};
 ghost use Rattle.txn_model.specs.Skeletons.{coord_skeleton, coord_skeletons};
-ghost use Rattle.txn_model.specs.Coord.{coord_allows, count_new, is_open, is_deciding, in_parts, status_of};
+ghost use Rattle.txn_model.specs.Coord.{coord_allows, count_new, is_open, is_deciding};
 ghost use Rattle.txn_coordinator.specs.Table.{IsRowOf, AreEntries, is_new_entry, status_in, has_bit};
 
 use crate::row::{Row, row_with};

@@ -1,13 +1,11 @@
 //! The next records of a log, read and tested.
-ghost use Rattle.std.specs.Prelude.{◌≡◌, ◌≤◌, ◌<◌, ◌+◌, ◌++◌, ◌∷◌, [], false, ℕ, length, take, Err, IfOk, IfErr, OnOk, OnErr, slice_index_or};
+ghost use Rattle.std.specs.Prelude.{◌≡◌, ◌≤◌, ◌<◌, ◌+◌, ◌++◌, ℕ, length, take, Err, IfOk, OnOk, OnErr};
 ghost use Rattle.txn_base.specs.declared.entry.CoordEntry.{CoordEntry};
 ghost use Rattle.txn_base.specs.Content.{settled, Backed};
-ghost use Rattle.txn_base.specs.Decoded.{coord_entry_of, coord_entries};
+ghost use Rattle.txn_base.specs.Decoded.{coord_entries};
 ghost use Rattle.txn_base.specs.Disk.{Since, Same, CountsFaults};
 ghost use Rattle.txn_base.specs.Frames.{records};
 ghost use Rattle.txn_base.specs.Records.{IsCoordEntry, IsCoordRecord};
-ghost use Rattle.txn_model.specs.Skeletons.{coord_skeleton, coord_skeletons};
-ghost use Rattle.txn_model.specs.Coord.{coord_allows};
 ghost use Rattle.txn_coordinator.specs.Mending.{record_at, AreRecordsFrom, AreRecordsTo, IsBadRecord};
 ghost use Rattle.txn_coordinator.specs.Table.{AreEntries};
 

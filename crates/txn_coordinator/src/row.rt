@@ -1,10 +1,10 @@
 //! What the table keeps of a transaction.
-ghost use Rattle.std.specs.Prelude.{◌≡◌, ◌<◌};
-ghost use Rattle.std.specs.Int.{bit_at};
+ghost use Rattle.std.specs.Prelude.{◌≡◌, ◌<◌, ◌≤◌, ◌+◌, true, length, vec_len, vec_capacity};
 ghost use Rattle.txn_base.specs.Records.{IsCoordEntry};
 ghost use Rattle.txn_model.specs.Skeletons.{same_txn};
-ghost use Rattle.txn_coordinator.specs.Table.{txn_in, row_after, row_with};
+ghost use Rattle.txn_coordinator.specs.Table.{IsPassed, IsLow, HasRow, is_new_entry, txn_in, row_after, row_with, rows_with};
 
+use crate::decisions::is_closed;
 use txn_base::{CoordEntry, Status, TxnId};
 
 /// A transaction: its deadline in milliseconds, how far it is, and its parts. Bit p of `parts` stands for part p.
@@ -72,4 +72,37 @@ pub fn row_with(txn: TxnId, row: Option<Row>, entry: &CoordEntry) -> Option<Row>
         }),
         (None, _) => None,
     }
+}
+
+/// Writes the row that an entry adds or changes.
+pub fn write_row(rows: &mut Vec<Row>, entry: &CoordEntry)
+    requires fits { IsCoordEntry entry.now }
+    requires there { HasRow entry.now (length rows.old.items) }
+    requires room { is_new_entry entry.now ≡ true → vec_len rows.old < vec_capacity rows.old }
+    ensures rows { rows.new.items ≡ rows_with entry.now rows.old.items }
+    ensures len { vec_len rows.new ≤ vec_len rows.old + 1 }
+    ensures capacity { vec_capacity rows.new ≡ vec_capacity rows.old }
+{
+    if let CoordEntry::New { deadline, .. } = entry {
+        rows.push_reserved(Row {
+            deadline: *deadline,
+            status: Status::Open,
+            parts: 0,
+        });
+        return;
+    }
+    let at = txn_in(entry).least as usize;
+    rows[at] = rows[at].after(entry);
+}
+
+/// The first number from `low` on whose transaction isn't closed, or their count.
+pub fn passed(rows: &[Row], low: usize) -> usize
+    requires { IsPassed rows.now low }
+    ensures { IsLow rows.now result }
+{
+    let mut at = low;
+    while at < rows.len() && is_closed(rows[at].status) {
+        at += 1;
+    }
+    at
 }

@@ -1,14 +1,14 @@
 //! The transactions of a coordinator's entries, by number.
-ghost use Rattle.std.specs.Prelude.{◌≡◌, ◌≤◌, ◌+◌, ◌^◌, ℕ, [], ◌∷◌, ◌++◌, length, true, false, if◌then◌else◌, IfSome, IfNone, IfOk, OnOk, IsTrue, Some, vec_len, vec_capacity, ◌<◌};
+ghost use Rattle.std.specs.Prelude.{◌≡◌, ◌≤◌, ◌<◌, ◌+◌, ◌^◌, ℕ, [], ◌∷◌, ◌++◌, true, if◌then◌else◌, OnOk};
 ghost use Rattle.txn_base.specs.Records.{IsCoordEntry};
 ghost use Rattle.txn_model.specs.Skeletons.{coord_skeleton, coord_skeletons};
 ghost use Rattle.txn_model.specs.Coord.{coord_allows, count_new, status_of, in_parts, decision_of};
-ghost use Rattle.txn_model.specs.Deadlines.{is_closed, is_undriven, low_of, first_undriven};
+ghost use Rattle.txn_model.specs.Deadlines.{low_of, first_undriven};
 ghost use Rattle.std.specs.Int.{bit_at};
-ghost use Rattle.txn_coordinator.specs.Table.{IsRowOf, IsPassed, IsLow, AreEntries, HasRow, rows_with, decision_in, is_new_entry};
-ghost use Rattle.txn_coordinator.specs.declared.row.Row.{Row};
+ghost use Rattle.txn_coordinator.specs.Table.{IsRowOf, AreEntries, is_new_entry};
 
-use crate::row::{Row, txn_in};
+use crate::decisions::{decision_in, is_undriven};
+use crate::row::{Row, passed, write_row};
 use std::alloc::{AllocError, Global};
 use std::marker::Model;
 use txn_base::{ContentCarrier, CoordEntry, Decision, FileId, ReadsContent, Status, TxnId};
@@ -166,76 +166,4 @@ impl Table {
             &entry,
         ));
     }
-}
-
-/// The decision that a status tells.
-fn decision_in(status: Option<Status>) -> Option<Decision>
-    ensures { result ≡ decision_in status }
-{
-    match status? {
-        Status::Open => None,
-        Status::Committing => Some(Decision::Commit),
-        Status::Committed => Some(Decision::Commit),
-        Status::Aborting => Some(Decision::Abort),
-        Status::Aborted => Some(Decision::Abort),
-    }
-}
-
-/// A status of a transaction that is decided and not closed.
-fn is_undriven(status: Status) -> bool
-    ensures { result ≡ is_undriven (Some status) }
-{
-    match status {
-        Status::Committing => true,
-        Status::Aborting => true,
-        Status::Open => false,
-        Status::Committed => false,
-        Status::Aborted => false,
-    }
-}
-
-/// A status of a transaction that is closed.
-fn is_closed(status: Status) -> bool
-    ensures { result ≡ is_closed (Some status) }
-{
-    match status {
-        Status::Committed => true,
-        Status::Aborted => true,
-        Status::Open => false,
-        Status::Committing => false,
-        Status::Aborting => false,
-    }
-}
-
-/// Writes the row that an entry adds or changes.
-fn write_row(rows: &mut Vec<Row>, entry: &CoordEntry)
-    requires fits { IsCoordEntry entry.now }
-    requires there { HasRow entry.now (length rows.old.items) }
-    requires room { is_new_entry entry.now ≡ true → vec_len rows.old < vec_capacity rows.old }
-    ensures rows { rows.new.items ≡ rows_with entry.now rows.old.items }
-    ensures len { vec_len rows.new ≤ vec_len rows.old + 1 }
-    ensures capacity { vec_capacity rows.new ≡ vec_capacity rows.old }
-{
-    if let CoordEntry::New { deadline, .. } = entry {
-        rows.push_reserved(Row {
-            deadline: *deadline,
-            status: Status::Open,
-            parts: 0,
-        });
-        return;
-    }
-    let at = txn_in(entry).least as usize;
-    rows[at] = rows[at].after(entry);
-}
-
-/// The first number from `low` on whose transaction isn't closed, or their count.
-fn passed(rows: &[Row], low: usize) -> usize
-    requires { IsPassed rows.now low }
-    ensures { IsLow rows.now result }
-{
-    let mut at = low;
-    while at < rows.len() && is_closed(rows[at].status) {
-        at += 1;
-    }
-    at
 }

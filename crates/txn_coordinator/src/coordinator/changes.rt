@@ -1,9 +1,9 @@
 //! The calls that add an entry.
-ghost use Rattle.std.specs.Prelude.{◌≡◌, ◌≤◌, ◌+◌, ◌^◌, ℕ, true, false, None, Err, IsTrue, IsOk, IfOk, IfErr, OnOk, OnErr, MatchOption, if◌then◌else◌};
+ghost use Rattle.std.specs.Prelude.{◌≡◌, ◌≤◌, ◌+◌, ◌^◌, true, false, None, Err, IsTrue, IsOk, IfOk, IfErr, OnOk, OnErr, MatchOption};
 ghost use Rattle.txn_base.specs.declared.file_id.FileId.{FileId};
 ghost use Rattle.txn_base.specs.Content.{Backed, Appends};
 ghost use Rattle.txn_base.specs.Disk.{Since, HasPartCause, CountsFaults};
-ghost use Rattle.txn_base.specs.Records.{IsCoordEntry, IsTxnId};
+ghost use Rattle.txn_base.specs.Records.{IsCoordEntry};
 ghost use Rattle.txn_model.specs.Skeletons.{coord_skeleton, coord_skeletons};
 ghost use Rattle.txn_model.specs.Coord.{coord_allows, is_open};
 ghost use Rattle.txn_model.specs.Deadlines.{is_undriven};

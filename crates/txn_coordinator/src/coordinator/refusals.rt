@@ -9,7 +9,7 @@ use txn_ledger::RecordLog;
 
 impl<R: RecordLog> Coordinator<R> {
     /// Why no transaction can be begun now, but for want of memory or a fault.
-    pub fn begin_refusal(&self, timeout: u64) -> Option<CoordError>
+    pub(crate) fn begin_refusal(&self, timeout: u64) -> Option<CoordError>
         ensures refusal { result ≡ begin_refusal self.now timeout }
         ensures timeout { IfNone result (timeout ≤ 86400000) }
     {
@@ -27,7 +27,7 @@ impl<R: RecordLog> Coordinator<R> {
     }
 
     /// The refusal where the log has no room for what clients add.
-    pub fn full_log(&self) -> Option<CoordError>
+    pub(crate) fn full_log(&self) -> Option<CoordError>
         ensures { result ≡ full_log self.now }
     {
         let count = self.log.len();
@@ -41,7 +41,7 @@ impl<R: RecordLog> Coordinator<R> {
     }
 
     /// Why a part can't be added, but for want of memory or a fault.
-    pub fn add_refusal(&self, txn: TxnId, part: u32) -> Option<CoordError>
+    pub(crate) fn add_refusal(&self, txn: TxnId, part: u32) -> Option<CoordError>
         requires { part < 64 }
         ensures { result ≡ add_refusal self.now txn part }
     {
@@ -58,7 +58,7 @@ impl<R: RecordLog> Coordinator<R> {
     }
 
     /// Why a transaction can't be decided so, but for want of memory or a fault.
-    pub fn decide_refusal(&self, txn: TxnId, decision: Decision) -> Option<CoordError>
+    pub(crate) fn decide_refusal(&self, txn: TxnId, decision: Decision) -> Option<CoordError>
         ensures { result ≡ decide_refusal self.now txn decision }
     {
         match self.table.status(txn) {

@@ -1,4 +1,4 @@
-use Rattle.std.proofs.Common.{◌≡◌, ℕ, ◌+◌, ◌-◌, ◌≤◌, List, ◌++◌, length, take, vec_capacity}
+use Rattle.std.proofs.Common.{◌≡◌, ◌+◌, ◌≤◌, ◌++◌, length, take, vec_capacity}
 use Rattle.txn_base.specs.Content.{Backed}
 use Rattle.txn_base.specs.Decoded.{coord_entries}
 use Rattle.txn_base.specs.Disk.{Since, Same, CountsFaults}

@@ -1,4 +1,4 @@
-use Rattle.std.proofs.Common.{◌≡◌, ℕ, ◌<◌, ◌≤◌, arith, false, get_or, Some, ap, sym, ◌∙◌}
+use Rattle.std.proofs.Common.{arith, ap, sym, ◌∙◌}
 use Rattle.txn_coordinator.proofs.Finding.{undriven_read, undriven_read_none}
 use Rattle.txn_coordinator.proofs.table.Table.first_undriven.Goals as goal
 

@@ -1,6 +1,6 @@
 use Rattle.std.proofs.Common.{length, ◌-◌}
 use Rattle.txn_coordinator.specs.Table.{IsPassed}
-use Rattle.txn_coordinator.proofs.table.passed.Given as goal
+use Rattle.txn_coordinator.proofs.row.passed.Given as goal
 
 abbrev pub invariant-loop-at : goal.invariant-loop-at
 invariant-loop-at l = IsPassed l.rows l.at
