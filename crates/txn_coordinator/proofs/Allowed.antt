@@ -12,18 +12,18 @@ use Rattle.txn_model.specs.Skeletons.{coord_skeleton}
 use Rattle.txn_model.specs.Coord.{status_of, decision_of, is_open, is_deciding, coord_allows, CoordLawful}
 use Rattle.txn_model.specs.Deadlines.{is_undriven}
 use Rattle.txn_coordinator.specs.Table.{decision_in}
-use Rattle.txn_coordinator.specs.Calls.{decide_entry, close_entry}
+use Rattle.txn_model.specs.Table.{decision_entry, closing_entry}
 use Rattle.txn_coordinator.proofs.Finding.{decision_by_status}
 
-decide_allowed : (c : List CoreEntry) (x : TxnId) (d : Decision) → is_open (status_of c x) ≡ true → coord_allows 62 c (coord_skeleton (decide_entry x d)) ≡ true
+decide_allowed : (c : List CoreEntry) (x : TxnId) (d : Decision) → is_open (status_of c x) ≡ true → coord_allows 62 c (coord_skeleton (decision_entry x d)) ≡ true
 decide_allowed c x Commit h = h
 decide_allowed c x Abort h = h
 
-pub decides_open : (c : List CoreEntry) (x : TxnId) (d : Decision) (status : Status) (e : CoordEntry) → status ≡ Open → Some status ≡ status_of c x → e ≡ decide_entry x d → coord_allows 62 c (coord_skeleton e) ≡ true
+pub decides_open : (c : List CoreEntry) (x : TxnId) (d : Decision) (status : Status) (e : CoordEntry) → status ≡ Open → Some status ≡ status_of c x → e ≡ decision_entry x d → coord_allows 62 c (coord_skeleton e) ≡ true
 decides_open c x d status e is at same =
     ap (λ f. coord_allows 62 c (coord_skeleton f)) same ∙ decide_allowed c x d (ap is_open (sym at ∙ ap (λ (s : Status). Some s) is))
 
-close_allowed : (c : List CoreEntry) (x : TxnId) (o : Option Status) → status_of c x ≡ o → is_undriven o ≡ true → coord_allows 62 c (coord_skeleton (close_entry x (unwrap_or (decision_in o) Commit))) ≡ true
+close_allowed : (c : List CoreEntry) (x : TxnId) (o : Option Status) → status_of c x ≡ o → is_undriven o ≡ true → coord_allows 62 c (coord_skeleton (closing_entry x (unwrap_or (decision_in o) Commit))) ≡ true
 close_allowed c x None at h = absurd (true≢false (sym h))
 close_allowed c x (Some Open) at h = absurd (true≢false (sym h))
 close_allowed c x (Some Committing) at h = ap (is_deciding Commit) at
@@ -31,6 +31,6 @@ close_allowed c x (Some Committed) at h = absurd (true≢false (sym h))
 close_allowed c x (Some Aborting) at h = ap (is_deciding Abort) at
 close_allowed c x (Some Aborted) at h = absurd (true≢false (sym h))
 
-pub closes_undriven : (c : List CoreEntry) (x : TxnId) (e : CoordEntry) → CoordLawful 62 c → e ≡ close_entry x (unwrap_or (decision_of c x) Commit) → is_undriven (status_of c x) ≡ true → coord_allows 62 c (coord_skeleton e) ≡ true
+pub closes_undriven : (c : List CoreEntry) (x : TxnId) (e : CoordEntry) → CoordLawful 62 c → e ≡ closing_entry x (unwrap_or (decision_of c x) Commit) → is_undriven (status_of c x) ≡ true → coord_allows 62 c (coord_skeleton e) ≡ true
 closes_undriven c x e lawful same h =
-    ap (λ f. coord_allows 62 c (coord_skeleton f)) (same ∙ ap (λ d. close_entry x (unwrap_or d Commit)) (sym (decision_by_status c x lawful))) ∙ close_allowed c x (status_of c x) refl h
+    ap (λ f. coord_allows 62 c (coord_skeleton f)) (same ∙ ap (λ d. closing_entry x (unwrap_or d Commit)) (sym (decision_by_status c x lawful))) ∙ close_allowed c x (status_of c x) refl h

@@ -3,13 +3,13 @@ ghost use Rattle.std.specs.Prelude.{◌≡◌, Some};
 ghost use Rattle.txn_model.specs.Coord.{deciding};
 ghost use Rattle.txn_model.specs.Deadlines.{is_undriven, is_closed};
 ghost use Rattle.txn_coordinator.specs.Table.{decision_in};
-ghost use Rattle.txn_coordinator.specs.Calls.{decide_entry, close_entry};
+ghost use Rattle.txn_model.specs.Table.{decision_entry, closing_entry};
 
 use txn_base::{CoordEntry, Decision, Status, TxnId};
 
 /// The entry that decides a transaction so.
-pub fn decide_entry(txn: TxnId, decision: Decision) -> CoordEntry
-    ensures { result ≡ decide_entry txn decision }
+pub fn decision_entry(txn: TxnId, decision: Decision) -> CoordEntry
+    ensures { result ≡ decision_entry txn decision }
 {
     match decision {
         Decision::Commit => CoordEntry::Committing { txn },
@@ -18,8 +18,8 @@ pub fn decide_entry(txn: TxnId, decision: Decision) -> CoordEntry
 }
 
 /// The entry that closes a transaction by its decision.
-pub fn close_entry(txn: TxnId, decision: Decision) -> CoordEntry
-    ensures { result ≡ close_entry txn decision }
+pub fn closing_entry(txn: TxnId, decision: Decision) -> CoordEntry
+    ensures { result ≡ closing_entry txn decision }
 {
     match decision {
         Decision::Commit => CoordEntry::Committed { txn },

@@ -7,11 +7,12 @@ ghost use Rattle.txn_base.specs.Records.{IsCoordEntry};
 ghost use Rattle.txn_model.specs.Skeletons.{coord_skeleton, coord_skeletons};
 ghost use Rattle.txn_model.specs.Coord.{coord_allows, is_open};
 ghost use Rattle.txn_model.specs.Deadlines.{is_undriven};
+ghost use Rattle.txn_model.specs.Table.{decision_entry};
 ghost use Rattle.txn_coordinator.specs.View.{coord_batch, logged, fenced, reserving, IsFrontOf};
-ghost use Rattle.txn_coordinator.specs.Calls.{MayFail, begin_refusal, next_txn, add_refusal, has_part, status_in_view, with_part, decide_refusal, decide_entry, decided, decided_status, closing_entry};
+ghost use Rattle.txn_coordinator.specs.Calls.{MayFail, begin_refusal, next_txn, add_refusal, has_part, status_in_view, with_part, decide_refusal, decided, decided_status, closing_of_view};
 
 use crate::coordinator::Coordinator;
-use crate::decisions::{close_entry, decide_entry, deciding};
+use crate::decisions::{closing_entry, deciding, decision_entry};
 use crate::error::CoordError;
 use crate::log_entry::{FRAME, log_entry};
 use std::alloc::AllocError;
@@ -142,11 +143,11 @@ impl<R: RecordLog> Coordinator<R> {
         ensures repeated { decide_refusal self.old txn decision ≡ None → is_open (status_in_view self.old txn) ≡ false → IsOk result }
         ensures told { IfOk result (λ status. status ≡ decided_status self.old txn decision) }
         ensures ok { OnOk result (self.new ≡ decided self.old txn decision) }
-        ensures fault { result ≡ Err CoordError.Fault → self.new ≡ fenced self.old (decide_entry txn decision) }
+        ensures fault { result ≡ Err CoordError.Fault → self.new ≡ fenced self.old (decision_entry txn decision) }
         ensures same { IfErr result (λ e. (e ≡ CoordError.Fault → ⊥) → self.new ≡ self.old) }
         ensures tied { IsFrontOf self.old → IsFrontOf self.new }
         ensures backed { Backed R.stands (D.image disk.new) (self.new).content }
-        ensures images { Since D.moment D.image D.left_since (Appends R.mine R.stands (self.old).content (coord_batch (decide_entry txn decision))) disk.old disk.new }
+        ensures images { Since D.moment D.image D.left_since (Appends R.mine R.stands (self.old).content (coord_batch (decision_entry txn decision))) disk.old disk.new }
         ensures others { (other : FileId) → (R.mine (self.old).content.key other → ⊥) → D.seen disk.new other ≡ D.seen disk.old other }
         ensures cause { CountsFaults (self.old).content.key.part (D.faults disk.old) (D.faults disk.new) (D.part_faults disk.old) (D.part_faults disk.new) (result ≡ Err CoordError.Fault) }
     {
@@ -156,7 +157,7 @@ impl<R: RecordLog> Coordinator<R> {
         match self.table.status(txn) {
             None => Err(CoordError::NotFound),
             Some(Status::Open) => {
-                self.add_entry(disk, decide_entry(txn, decision))?;
+                self.add_entry(disk, decision_entry(txn, decision))?;
                 Ok(deciding(decision))
             }
             Some(status) => Ok(status),
@@ -164,14 +165,14 @@ impl<R: RecordLog> Coordinator<R> {
     }
 
     /// The entry that closes a decided transaction.
-    fn closing_entry(&self, txn: TxnId) -> CoordEntry
-        ensures entry { result ≡ closing_entry self.now txn }
+    fn close_of(&self, txn: TxnId) -> CoordEntry
+        ensures entry { result ≡ closing_of_view self.now txn }
         ensures fits { IsCoordEntry result }
         ensures allowed { is_undriven (status_in_view self.now txn) ≡ true → coord_allows 62 (coord_skeletons self.now.front) (coord_skeleton result) ≡ true }
     {
         let _count = self.table.count();
         let decision = self.table.decision(txn).unwrap_or(Decision::Commit);
-        close_entry(txn, decision)
+        closing_entry(txn, decision)
     }
 
     /// Closes a transaction that is decided and not closed, by its decision. It takes no memory, and uses up the room that
@@ -181,15 +182,15 @@ impl<R: RecordLog> Coordinator<R> {
         requires reserved { (self.old).reserved ≡ 1 }
         requires undriven { is_undriven (status_in_view self.old txn) ≡ true }
         requires backed { Backed R.stands (D.image disk.old) (self.old).content }
-        ensures ok { OnOk result (self.new ≡ reserving 0 (logged self.old (closing_entry self.old txn))) }
-        ensures fault { OnErr result (self.new ≡ fenced self.old (closing_entry self.old txn)) }
+        ensures ok { OnOk result (self.new ≡ reserving 0 (logged self.old (closing_of_view self.old txn))) }
+        ensures fault { OnErr result (self.new ≡ fenced self.old (closing_of_view self.old txn)) }
         ensures tied { IsFrontOf self.old → IsFrontOf self.new }
         ensures backed { Backed R.stands (D.image disk.new) (self.new).content }
-        ensures images { Since D.moment D.image D.left_since (Appends R.mine R.stands (self.old).content (coord_batch (closing_entry self.old txn))) disk.old disk.new }
+        ensures images { Since D.moment D.image D.left_since (Appends R.mine R.stands (self.old).content (coord_batch (closing_of_view self.old txn))) disk.old disk.new }
         ensures others { (other : FileId) → (R.mine (self.old).content.key other → ⊥) → D.seen disk.new other ≡ D.seen disk.old other }
         ensures cause { HasPartCause (self.old).content.key.part (D.faults disk.old) (D.faults disk.new) (D.part_faults disk.old) (D.part_faults disk.new) result }
     {
-        let entry = self.closing_entry(txn);
+        let entry = self.close_of(txn);
         self.reserved = false;
         match log_entry(&mut self.log, &mut self.table, &mut self.bytes, disk, entry) {
             Ok(()) => {
