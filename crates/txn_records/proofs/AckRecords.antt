@@ -1,10 +1,10 @@
 -- A record of a subscription's ledger stands for one entry.
-use Rattle.std.proofs.Common.{◌≡◌, ℕ, ◌+◌, ◌<◌, ◌≤◌, ◌^◌, List, [], ◌∷◌, ◌++◌, drop, refl, sym, ap, ◌∙◌, arith}
+use Rattle.std.proofs.Common.{◌≡◌, ℕ, List, [], ◌∷◌, ◌++◌, drop, sym, ap, ◌∙◌, arith}
 use Rattle.byteorder.specs.Endian.{big_bytes, big_number}
 use Rattle.txn_base.specs.declared.txn.TxnId.{TxnId}
 use Rattle.txn_base.specs.declared.entry.AckEntry.{AckEntry}
 use Rattle.txn_base.specs.declared.entry.AckEntry.TheVariants as ack
-use Rattle.txn_base.specs.Decoded.{ack_entry_of, places_at_front}
+use Rattle.txn_base.specs.Decoded.{ack_entry_of}
 use Rattle.txn_base.specs.Records.{IsAckEntry, IsAckRecord, ArePlaces, IsWord, ack_record, places_bytes, txn_bytes}
 use Rattle.txn_records.specs.Acks.{AckRecordsDecode, AckRecordsAreOne, AckRecordsReadBack}
 use Rattle.txn_records.proofs.Numbers.{txn_read, number_read, other_kind}

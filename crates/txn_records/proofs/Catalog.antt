@@ -1,17 +1,16 @@
 -- A record of the catalog stands for one name, which is a text.
-use Rattle.std.proofs.Common.{◌≡◌, ◌≢◌, if◌then◌else◌, zero, suc, not, ◌==◌, ◌&&◌, nat_le, subst, ℕ, ◌+◌, ◌<◌, ◌≤◌, Bool, true, false, List, [], ◌∷◌, ◌++◌, length, get_or, drop, refl, sym, ap, ◌∙◌, arith, inl, inr}
+use Rattle.std.proofs.Common.{◌≡◌, ◌≢◌, if◌then◌else◌, zero, suc, not, ◌==◌, ◌&&◌, nat_le, subst, ℕ, ◌<◌, ◌≤◌, Bool, true, false, List, [], ◌∷◌, length, get_or, drop, refl, sym, ap, ◌∙◌, arith, inl, inr}
 use Rattle.std.specs.Prelude.{IsUtf8}
-use Rattle.std.specs.List.{position_or_len, before_first, after_first, list_any, list_all, AllPass}
+use Rattle.std.specs.List.{position_or_len, before_first, after_first, list_all}
 use Rattle.std.specs.Str.{IsAscii}
-use Rattle.std.proofs.lemmas.Bool.{cases_lt, and_parts, false≢true}
+use Rattle.std.proofs.lemmas.Bool.{cases_lt, and_parts}
 use Rattle.std.proofs.lemmas.Bool.Decides.{nat_tests}
-use Rattle.std.proofs.lemmas.List.{take_all, get_or_past}
+use Rattle.std.proofs.lemmas.List.{get_or_past}
 use Rattle.std.proofs.lemmas.List.Sums.{prefix_len-le-length, split_at_first, fails_before_first, passes_at_first, AllPass-from_list_all}
 use Rattle.std.proofs.lemmas.List.Folds.{list_any_none, list_any_at}
 use Rattle.std.proofs.lemmas.Str.{IsAscii-append, IsUtf8-from_ascii}
 use Rattle.txn_base.specs.Names.{is_name_byte, is_topic_name, is_slash, is_sub, topic_of, is_name, begins_with_dash}
-use Rattle.txn_base.specs.Decoded.{name_of_record}
-use Rattle.txn_base.specs.Records.{IsNameRecord, name_record}
+use Rattle.txn_base.specs.Records.{name_record}
 use Rattle.txn_records.specs.Catalog.{NameRecordsDecode, NameRecordsAreOne, NameRecordsReadBack}
 
 -- no slash stands in the name, or one does

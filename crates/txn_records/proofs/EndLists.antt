@@ -1,5 +1,5 @@
 -- The bytes of ends, one after another.
-use Rattle.std.proofs.Common.{◌≡◌, ℕ, zero, suc, ◌+◌, ◌-◌, ◌*◌, ◌<◌, ◌≤◌, ◌^◌, ◌⊎◌, List, [], ◌∷◌, ◌++◌, length, take, drop, get_or, refl, sym, ap, ◌∙◌, arith, length-append, subst, inl, inr}
+use Rattle.std.proofs.Common.{◌≡◌, ℕ, zero, suc, ◌+◌, ◌-◌, ◌*◌, ◌<◌, ◌≤◌, ◌^◌, List, [], ◌∷◌, ◌++◌, length, get_or, refl, sym, ap, ◌∙◌, arith, subst, inl, inr}
 use Rattle.std.specs.Prelude.{All, AllPairs}
 use Rattle.std.specs.List.{flat_map}
 use Rattle.std.proofs.lemmas.List.{append_assoc, append-nil}
@@ -9,9 +9,9 @@ use Rattle.byteorder.specs.Endian.{big_bytes, big_number}
 use Rattle.byteorder.specs.Numbers.{big_number-reads_back}
 use Rattle.txn_base.specs.declared.txn.TxnId.{TxnId}
 use Rattle.txn_base.specs.declared.txn.Decision.{Decision}
-use Rattle.txn_base.specs.Records.{IsEnd, end_bytes, ends_record}
+use Rattle.txn_base.specs.Records.{IsEnd, end_bytes}
 use Rattle.txn_base.specs.Snapshots.{ComesBefore}
-use Rattle.txn_records.specs.EndsRead.{AddsEnds, AddsRecord, counted_ends}
+use Rattle.txn_records.specs.EndsRead.{AddsEnds, AddsRecord, AreEnds, AreCounted, counted_ends}
 
 -- So far these ends were read of the bytes, and the rest is to come.
 pub record ReadsEnds (before after : List (TxnId × Decision)) (bytes rest : List ℕ) : Type 0 where
@@ -78,3 +78,22 @@ ascends ends next i j d lower upper = up (j - (i + 1)) i j (omega arith) upper
     up zero i j e upper = let same : i + 1 ≡ j = omega arith in subst (λ (k : ℕ). ComesBefore (get_or ends i d).0 (get_or ends k d).0) same (next i d (omega arith))
     up (suc n) i j e upper =
         before_trans (get_or ends i d).0 (get_or ends (i + 1) d).0 (get_or ends j d).0 (next i d (omega arith)) (up n (i + 1) j (omega arith) upper)
+
+-- all the bytes were read, and they are so many
+pub ends_all : (found : List (TxnId × Decision)) (bytes rest : List ℕ) (count : ℕ) → ReadsEnds [] found bytes rest → length rest ≡ 0 → length bytes ≡ 17 * count → AreEnds bytes count
+ends_all found bytes rest count reads none size =
+    let whole : bytes ≡ flat_map end_bytes reads.ends = reads.bytes_are ∙ ap (λ (l : List ℕ). flat_map end_bytes reads.ends ++ l) (empty rest none) ∙ append-nil (flat_map end_bytes reads.ends) in
+    record { ends = reads.ends; bytes_are = whole; count_is = omega (arith, ap length whole, items_length reads.ends, size); each = reads.each }
+  where
+    empty : (l : List ℕ) → length l ≡ 0 → l ≡ []
+    empty [] e = refl
+    empty (b ∷ bs) e = absurd (omega arith)
+
+-- ends behind their count
+pub counted_all : (fields items : List ℕ) (count : ℕ) → fields ≡ big_bytes 2 count ++ items → count < 2 ^ 16 → AreEnds items count → AreCounted fields
+counted_all fields items count split fits are = record {
+  ends = are.ends;
+  bytes_are = split ∙ ap (λ (l : List ℕ). big_bytes 2 count ++ l) are.bytes_are ∙ ap (λ (n : ℕ). big_bytes 2 n ++ flat_map end_bytes are.ends) (sym are.count_is);
+  count_fits = omega (arith, are.count_is, fits);
+  each = are.each;
+}

@@ -1,7 +1,7 @@
 -- The ends of a snapshot, cut into records of 3,000.
 use Rattle.std.proofs.Common.{◌≡◌, add-one, ℕ, zero, suc, ◌+◌, ◌-◌, ◌*◌, ◌/◌, ◌<◌, ◌≤◌, min, ◌⊎◌, List, [], ◌∷◌, ◌++◌, length, take, drop, get_or, refl, sym, ap, ◌∙◌, arith, length-append, subst, inl, inr}
 use Rattle.std.specs.Prelude.{All}
-use Rattle.std.proofs.lemmas.List.{append-nil, get_or-map, length-map, take_all, drop_all, take-append-le, drop-append-le, length-drop, length-take, length-take-le, drop-drop, take-append-drop, take_more}
+use Rattle.std.proofs.lemmas.List.{get_or-map, length-map, take_all, drop_all, take-append-le, drop-append-le, length-drop, length-take, length-take-le, drop-drop, take-append-drop, take_more}
 use Rattle.std.proofs.Math.Seq.{take-append-add}
 use Rattle.std.proofs.lemmas.List.Elements.{All-append, All-take, All-drop}
 use Rattle.std.proofs.lemmas.Bool.{cases_lt}

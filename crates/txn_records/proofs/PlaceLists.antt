@@ -1,15 +1,14 @@
 -- The bytes of lists of places.
-use Rattle.std.proofs.Common.{◌≡◌, ℕ, zero, suc, ◌+◌, ◌-◌, ◌*◌, ◌<◌, ◌≤◌, ◌^◌, List, [], ◌∷◌, ◌++◌, length, take, drop, get_or, refl, sym, ap, ◌∙◌, arith, length-append, subst}
+use Rattle.std.proofs.Common.{◌≡◌, ℕ, suc, ◌+◌, ◌*◌, ◌<◌, ◌≤◌, ◌^◌, List, [], ◌∷◌, ◌++◌, length, drop, get_or, refl, sym, ap, ◌∙◌, arith}
 use Rattle.std.specs.Prelude.{All}
 use Rattle.std.specs.List.{flat_map}
-use Rattle.std.specs.List.Sorted.{IsStrictlyIncreasing}
 use Rattle.std.proofs.lemmas.List.{append_assoc, append-nil, get_or_default, drop-drop, length-drop, take-append-drop}
 use Rattle.std.proofs.lemmas.List.Elements.{All-head, All-tail}
 use Rattle.byteorder.specs.Endian.{big_bytes, big_number, IsRead}
 use Rattle.byteorder.specs.Numbers.{big_number-reads_back, big_from-lt}
 use Rattle.txn_base.specs.Decoded.{words_at_front, places_at_front}
 use Rattle.txn_base.specs.Records.{IsWord, ArePlaces, places_bytes}
-use Rattle.txn_records.proofs.Numbers.{word_again, dropped_small, number_read}
+use Rattle.txn_records.proofs.Numbers.{word_again, dropped_small}
 
 pub words_length : (places : List ℕ) → length (flat_map (big_bytes 8) places) ≡ 8 * length places
 words_length [] = refl

@@ -1,5 +1,5 @@
 -- The batch of a snapshot.
-use Rattle.std.proofs.Common.{◌≡◌, ℕ, zero, suc, ◌+◌, ◌*◌, ◌<◌, ◌≤◌, List, [], ◌∷◌, ◌++◌, length, take, drop, get_or, refl, sym, ap, ◌∙◌, arith}
+use Rattle.std.proofs.Common.{◌≡◌, ℕ, zero, suc, ◌*◌, ◌≤◌, List, [], ◌∷◌, ◌++◌, length, take, drop, get_or, refl, sym, ap, ◌∙◌, arith}
 use Rattle.std.specs.Prelude.{All, AllPairs}
 use Rattle.std.proofs.lemmas.List.{length-drop, take-append-drop}
 use Rattle.std.proofs.lemmas.List.Elements.{All-take, All-drop}
@@ -9,7 +9,7 @@ use Rattle.txn_base.specs.declared.txn.Decision.{Decision}
 use Rattle.txn_base.specs.declared.snapshot.Snapshot.{Snapshot}
 use Rattle.txn_base.specs.Frames.{Record, Batch}
 use Rattle.txn_base.specs.Records.{IsEnd, IsWord, IsHeadRecord, head_record}
-use Rattle.txn_base.specs.Snapshots.{IsSnapshotBatch, IsSnapshot, ComesBefore, ends_records, snapshot_batch}
+use Rattle.txn_base.specs.Snapshots.{IsSnapshotBatch, ComesBefore, ends_records, snapshot_batch}
 use Rattle.txn_records.specs.SnapshotLaws.{EndsRecordsAreOne, SnapshotBatchesAreOne, SnapshotsReadBack}
 use Rattle.txn_records.proofs.EndsOne.{ends_one}
 use Rattle.txn_records.proofs.Numbers.{number_read}

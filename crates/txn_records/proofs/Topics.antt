@@ -1,14 +1,14 @@
 -- A topic's record stands for one entry.
-use Rattle.std.proofs.Common.{◌≡◌, ℕ, List, ◌∷◌, ◌++◌, [], drop, refl, sym, ap, ◌∙◌, subst}
+use Rattle.std.proofs.Common.{◌≡◌, ℕ, List, [], refl, sym, ap, ◌∙◌, subst}
 use Rattle.txn_base.specs.declared.txn.TxnId.{TxnId}
 use Rattle.txn_base.specs.declared.txn.Decision.{Decision}
 use Rattle.txn_base.specs.declared.txn.Decision.TheVariants as decision
 use Rattle.txn_base.specs.declared.entry.TopicEntry.{TopicEntry}
 use Rattle.txn_base.specs.declared.entry.TopicEntry.TheVariants as topic
 use Rattle.txn_base.specs.Bytes.{only_bytes}
-use Rattle.txn_base.specs.Decoded.{topic_entry_of, txn_at_front}
+use Rattle.txn_base.specs.Decoded.{topic_entry_of}
 use Rattle.txn_base.specs.Entries.{bare}
-use Rattle.txn_base.specs.Records.{IsTopicRecord, IsTopicEntry, IsTxnId, topic_record, txn_bytes}
+use Rattle.txn_base.specs.Records.{IsTopicRecord, IsTopicEntry, IsTxnId, topic_record}
 use Rattle.txn_records.specs.Topics.{marker_of, topic_skeleton, TopicRecordsDecode, TopicRecordsAreOne, TopicRecordsReadBack}
 use Rattle.txn_records.proofs.Numbers.{txn_read}
 

@@ -1,5 +1,5 @@
 //! The ended transactions of a snapshot, one after another: each in 16 bytes, and behind it 1 for commit or 2 for abort.
-ghost use Rattle.std.specs.Prelude.{◌≡◌, ◌<◌, ◌≤◌, ◌+◌, ◌*◌, ◌↔◌, ◌∷◌, ◌++◌, ℕ, List, IsTrue, length, min, IfOk, OnOk, IfSome, IfNone, Err, All, AllPairs};
+ghost use Rattle.std.specs.Prelude.{◌≡◌, ◌<◌, ◌≤◌, ◌+◌, ◌*◌, ◌^◌, ◌↔◌, ◌∷◌, ◌++◌, ℕ, List, IsTrue, length, min, IfOk, OnOk, IfSome, IfNone, Err, All, AllPairs};
 ghost use Rattle.std.specs.List.{flat_map};
 ghost use Rattle.byteorder.specs.Endian.{big_bytes};
 ghost use Rattle.txn_base.specs.declared.txn.TxnId.{TxnId};
@@ -7,7 +7,7 @@ ghost use Rattle.txn_base.specs.declared.txn.Decision.{Decision};
 ghost use Rattle.txn_base.specs.Records.{IsEnd, end_bytes, ends_record};
 ghost use Rattle.txn_base.specs.Room.{capacity};
 ghost use Rattle.txn_base.specs.Snapshots.{ComesBefore};
-ghost use Rattle.txn_records.specs.EndsRead.{AddsEnds, AddsRecord, counted_ends};
+ghost use Rattle.txn_records.specs.EndsRead.{AddsEnds, AddsRecord, AreCounted, AreEnds, IsRecordOfEnds, counted_ends};
 
 use crate::error::RecordError;
 use crate::fields::{put_head, put_txn, put_u16, take_head, take_txn};
@@ -130,6 +130,49 @@ pub fn push_record(
     };
     push_ends(found, items)?;
     Ok(())
+}
+
+/// Whether these bytes are so many ends, in whatever order.
+fn are_ends(bytes: &[u8], count: usize) -> bool
+    requires { count < 2 ^ 16 }
+    ensures yes { IsTrue result → AreEnds bytes.now count }
+    ensures no { (ends : List (TxnId × Decision)) → bytes.now ≡ flat_map end_bytes ends → length ends ≡ count → IsTrue result }
+{
+    if bytes.len() != 17 * count {
+        return false;
+    }
+    let mut rest = bytes;
+    while rest.len() > 0 {
+        let Some((_end, after)) = take_end(rest) else {
+            return false;
+        };
+        rest = after;
+    }
+    true
+}
+
+/// Whether these bytes are a count and so many ends.
+fn are_counted(fields: &[u8]) -> bool
+    ensures yes { IsTrue result → AreCounted fields.now }
+    ensures no { (ends : List (TxnId × Decision)) → length ends < 2 ^ 16 → fields.now ≡ counted_ends ends → IsTrue result }
+{
+    if fields.len() < 2 {
+        return false;
+    }
+    are_ends(&fields[2..], BigEndian::read_u16(fields) as usize)
+}
+
+/// Whether these bytes are the record of some ends, in whatever number and order.
+pub fn is_ends_record(bytes: &[u8]) -> bool
+    ensures { IsTrue result ↔ IsRecordOfEnds bytes.now }
+{
+    let Some((kind, fields)) = take_head(bytes) else {
+        return false;
+    };
+    if kind != 2 {
+        return false;
+    }
+    are_counted(fields)
 }
 
 /// Whether a transaction's id comes before another's.

@@ -27,6 +27,6 @@ pub use laws::{
     topic_records_are_one, topic_records_decode, topic_records_read_back,
 };
 pub use name::{is_name, read_name, write_name};
-pub use snapshot::{ends_count, read_snapshot, write_ends, write_head};
+pub use snapshot::{ends_count, is_snapshot_record, read_snapshot, write_ends, write_head};
 pub use topic::{read_topic, topic_body, topic_skeleton_of};
 pub use topic_write::{marker_record, opened_record, plain_record, put_marker, write_topic};

@@ -1,14 +1,14 @@
 //! The records of a snapshot file: a head, and behind it the ends, 3,000 a record.
-ghost use Rattle.std.specs.Prelude.{◌≡◌, ◌<◌, ◌≤◌, ◌+◌, ◌*◌, ◌∷◌, [], ◌++◌, ℕ, List, length, slice_index_or, IfOk, IfSome, IfNone, Err, All};
+ghost use Rattle.std.specs.Prelude.{◌≡◌, ◌<◌, ◌≤◌, ◌+◌, ◌*◌, ◌∷◌, [], ◌++◌, ℕ, List, IsTrue, ◌↔◌, length, slice_index_or, IfOk, IfSome, IfNone, Err, All};
 ghost use Rattle.txn_base.specs.declared.txn.TxnId.{TxnId};
 ghost use Rattle.txn_base.specs.declared.txn.Decision.{Decision};
 ghost use Rattle.txn_base.specs.declared.snapshot.Snapshot.{Snapshot};
 ghost use Rattle.txn_base.specs.Bytes.{contents_of};
 ghost use Rattle.txn_base.specs.Records.{IsWord, IsEnd, IsHeadRecord, IsEndsRecord, head_record, ends_record};
 ghost use Rattle.txn_base.specs.Snapshots.{IsSnapshot, IsSnapshotBatch, ends_piece, ends_records, snapshot_batch};
-ghost use Rattle.txn_records.specs.EndsRead.{piece_count};
+ghost use Rattle.txn_records.specs.EndsRead.{IsSnapshotRecord, piece_count};
 
-use crate::ends::{ends_bytes, is_ascending, push_record};
+use crate::ends::{ends_bytes, is_ascending, is_ends_record, push_record};
 use crate::error::RecordError;
 use crate::fields::{only_u64, put_head, put_u64, take_head, take_u64};
 use std::alloc::{AllocError, Global};
@@ -73,6 +73,17 @@ fn head_of(bytes: &[u8]) -> Option<(u64, u64, u64)>
     let (limit, last) = take_u64(behind)?;
     let ends = only_u64(last)?;
     Some((entries, limit, ends))
+}
+
+/// Whether a record is in the grammar of a snapshot's records, whatever stands beside it: a head, or a list of ends of
+/// whatever number and order.
+pub fn is_snapshot_record(bytes: &[u8]) -> bool
+    ensures { IsTrue result ↔ IsSnapshotRecord bytes.now }
+{
+    match head_of(bytes) {
+        Some(_) => true,
+        None => is_ends_record(bytes),
+    }
 }
 
 /// The ends in these records, so many in all.

@@ -221,6 +221,8 @@ fn snapshots_come_back(rt: HostRuntime) -> Result<(), AllocError> {
             ]
         )
     );
+    assert!(rt; is_snapshot_record(ends_record(alloc, u64::MAX, 2)?.as_slice()));
+    assert!(rt; !is_snapshot_record(b"\x01\x02\0\x01\0\0\0\0\0\0\0\0\0\0\0\0\0\0\0\0\x03"));
     assert!(rt; !snapshot_again(alloc, &[]));
     assert!(rt; !snapshot_again(alloc, &[head_record(alloc, 1)?]));
     assert!(rt; !snapshot_again(alloc, &[head_record(alloc, 0)?, ends_record(alloc, 0, 0)?]));

@@ -1,4 +1,4 @@
-use Rattle.std.proofs.Common.{ℕ, ◌<◌, get_or, arith}
+use Rattle.std.proofs.Common.{ℕ, ◌<◌, get_or}
 use Rattle.txn_records.proofs.Numbers.{txn_taken}
 use Rattle.txn_records.proofs.fields.take_txn.Goals as goal
 

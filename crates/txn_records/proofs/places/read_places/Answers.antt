@@ -1,8 +1,7 @@
-use Rattle.std.proofs.Common.{◌≡◌, ℕ, List, ◌++◌, ap, sym, ◌∙◌, arith, subst}
+use Rattle.std.proofs.Common.{◌≡◌, sym, ◌∙◌, arith, subst}
 use Rattle.std.proofs.lemmas.Bool.{false≢true}
 use Rattle.std.specs.List.Sorted.{IsStrictlyIncreasing}
-use Rattle.byteorder.specs.Endian.{big_bytes}
-use Rattle.txn_base.specs.Records.{ArePlaces, places_bytes}
+use Rattle.txn_base.specs.Records.{places_bytes}
 use Rattle.txn_records.proofs.PlaceLists.{places_one, places_joined}
 use Rattle.txn_records.proofs.places.read_places.Goals as goal
 

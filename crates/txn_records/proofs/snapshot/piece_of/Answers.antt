@@ -1,4 +1,3 @@
-use Rattle.std.proofs.Common.{sym, ◌∙◌}
 use Rattle.txn_records.proofs.Pieces.{piece_taken}
 use Rattle.txn_records.proofs.snapshot.piece_of.Goals as goal
 

@@ -1,10 +1,9 @@
-use Rattle.std.proofs.Common.{◌≡◌, ℕ, ◌<◌, ◌≤◌, min, ◌-◌, List, length, get_or, sym, ap, ◌∙◌, arith}
-use Rattle.std.specs.Prelude.{Err, Result}
+use Rattle.std.proofs.Common.{◌≡◌, ◌<◌, List, length, get_or, ap, ◌∙◌, arith}
+use Rattle.std.specs.Prelude.{Err}
 use Rattle.txn_base.specs.Bytes.{contents_of}
 use Rattle.txn_base.specs.Frames.{Record}
 use Rattle.txn_base.specs.Records.{ends_record}
-use Rattle.txn_base.specs.Snapshots.{ends_piece, ends_records}
-use Rattle.txn_records.specs.declared.error.RecordError.{RecordError}
+use Rattle.txn_base.specs.Snapshots.{ends_piece}
 use Rattle.txn_records.specs.declared.error.RecordError.TheVariants as why
 use Rattle.txn_records.proofs.Pieces.{pieces_more, pieces_all, piece_due, record_at, item_at, contents_length}
 use Rattle.txn_records.proofs.snapshot.read_ends.Goals as goal

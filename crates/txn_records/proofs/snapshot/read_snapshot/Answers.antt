@@ -1,4 +1,4 @@
-use Rattle.std.proofs.Common.{◌≡◌, ◌≤◌, length, ap, sym, ◌∙◌, arith, inl, inr, refl, subst}
+use Rattle.std.proofs.Common.{length, ap, sym, ◌∙◌, arith, inl, inr, refl, subst}
 use Rattle.std.specs.Prelude.{All, AllPairs}
 use Rattle.std.proofs.lemmas.Bool.{false≢true}
 use Rattle.txn_base.specs.declared.txn.TxnId.{TxnId}

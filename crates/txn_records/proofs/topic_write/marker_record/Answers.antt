@@ -1,4 +1,4 @@
-use Rattle.std.proofs.Common.{rules, ap, ◌∙◌, ◌≡◌, ◌++◌}
+use Rattle.std.proofs.Common.{ap, ◌∙◌, ◌≡◌, ◌++◌}
 use Rattle.txn_base.specs.Decoded.{topic_entry_of}
 use Rattle.txn_base.specs.Records.{topic_record}
 use Rattle.txn_records.specs.Topics.{marker_of}
