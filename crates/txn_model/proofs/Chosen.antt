@@ -1,6 +1,8 @@
 -- A lawful world stays lawful where of its allowed flights some are kept, each whole.
 use Rattle.std.proofs.Common.{◌≡◌, ◌⊎◌, inl, inr, ℕ, ◌==◌, eqb-true, Bool, true, false, if◌then◌else◌, List, [], ◌∷◌, ◌++◌, length, Some, None, refl, sym, ap, ◌∙◌, subst}
 use Rattle.std.proofs.lemmas.List.{append-nil}
+use Rattle.txn_base.specs.declared.txn.TxnId.{TxnId}
+use Rattle.txn_base.specs.declared.txn.Decision.{Decision}
 use Rattle.txn_base.specs.declared.core_entry.CoreEntry.{CoreEntry}
 use Rattle.txn_base.specs.declared.entry.CoordEntry.{CoordEntry}
 use Rattle.txn_base.specs.declared.entry.TopicEntry.{TopicEntry}
@@ -17,7 +19,7 @@ use Rattle.txn_model.specs.World.{log_of, part_skeletons, has_inside, Lawful, Fl
 use Rattle.txn_model.specs.Allowed.{flight_skeletons, AllowedFlights}
 use Rattle.txn_model.proofs.Bools.{no_true}
 use Rattle.txn_model.proofs.Prefixes.{map_append}
-use Rattle.txn_model.proofs.LawfulGrowth.{Growth, lawful_growth}
+use Rattle.txn_model.proofs.LawfulGrowth.{marker_stays, Growth, lawful_growth}
 
 -- a list has its flight behind it, or not
 abbrev pub Chosen : {E : Type 0} → List E → List E → List E → Type 0
@@ -121,3 +123,11 @@ kept_choice w f stays =
 
 pub lawful_kept : (w : World) (f : Flights) (stays : ℕ → Bool) → Lawful w → AllowedFlights w f → Lawful (kept w f stays)
 lawful_kept w f stays l a = lawful_choice w (kept w f stays) f (kept_choice w f stays) l a
+
+-- a marker that stood still stands
+pub choice_markers : (w w' : World) (f : Flights) → Choice w w' f → (p : ℕ) (x : TxnId) (d : Decision) → marker_of (part_skeletons w p) x ≡ Some d → marker_of (part_skeletons w' p) x ≡ Some d
+choice_markers w w' f choice p x d h =
+    subst (λ s. marker_of s x ≡ Some d)
+    (sym (ap (λ names. if is_sub (name_of names p) then ack_skeletons (list_at w'.subs p) else topic_skeletons (list_at w'.topics p)) choice.names
+    ∙ part_more (is_sub (name_of w.names p)) (list_at w.topics p) (list_at w'.topics p) (f.topics p) (list_at w.subs p) (list_at w'.subs p) (f.subs p) (choice.topics p) (choice.subs p)))
+    (marker_stays (part_skeletons w p) _ x d h)

@@ -51,7 +51,7 @@ added_open n c (core.Committed y) x p a h = absurd (no_true h)
 added_open n c (core.Aborting y) x p a h = absurd (no_true h)
 added_open n c (core.Aborted y) x p a h = absurd (no_true h)
 
-lawful_more : (n : ℕ) (c : List CoreEntry) (e : CoreEntry) → CoordLawful n c → coord_allows n c e ≡ true → CoordLawful n (c ++ e ∷ [])
+pub lawful_more : (n : ℕ) (c : List CoreEntry) (e : CoreEntry) → CoordLawful n c → coord_allows n c e ≡ true → CoordLawful n (c ++ e ∷ [])
 lawful_more n c e h a = all_follow-append (coord_allows n) [] c (e ∷ []) ∙ and_both (all_follow (coord_allows n) [] c) (coord_allows n c e && true) h (and_both (coord_allows n c e) true a refl)
 
 -- no part is added to what is closed

@@ -7,19 +7,12 @@ use Rattle.txn_model.specs.Words.{list_at, append_at, set_at}
 use Rattle.txn_model.specs.World.{Lawful, Flights, no_flights, followed, kept}
 use Rattle.txn_model.specs.Table.{TableState, Batch, nothing, in_coord, in_topic, in_sub, batch_part, world_with, flights_with, settled, fenced_by, flights_without, resolved, rebuilt, is_fenced}
 use Rattle.txn_model.specs.Shape.{Shaped, IsFor}
-use Rattle.txn_model.specs.Allowed.{IsAllowed, AllowedFlights, FlightsAreFenced, LawfulState}
+use Rattle.txn_model.specs.Allowed.{IsAllowed, IsWhole, AllowedFlights, FlightsAreFenced, LawfulState}
 use Rattle.txn_model.proofs.Bools.{no_true}
 use Rattle.txn_model.proofs.Lists.{at_append}
 use Rattle.txn_model.proofs.Shapes.{shaped_with, shaped_kept}
 use Rattle.txn_model.proofs.Chosen.{Choice, kept_choice, lawful_choice, lawful_kept}
 use Rattle.txn_model.proofs.FlightsOver.{Rests, Resting, flights_over, Either, Mixed, mixed_allowed, batch_choice}
-
--- the part of a batch is rebuilt
-abbrev pub IsWhole : Batch → TableState → Type 0
-IsWhole nothing t = Unit {0}
-IsWhole (in_coord e) t = is_fenced t 0 ≡ false
-IsWhole (in_topic p es) t = is_fenced t p ≡ false
-IsWhole (in_sub p e) t = is_fenced t p ≡ false
 
 -- ---- What changes neither the world, nor the flights, nor which parts are rebuilt.
 

@@ -12,7 +12,7 @@ use Rattle.txn_model.specs.Coord.{CoordLawful, decision_of, closing_of, in_parts
 use Rattle.txn_model.specs.Topic.{TopicLawful, marker_of}
 use Rattle.txn_model.specs.Ack.{AckLawful}
 use Rattle.txn_model.specs.World.{log_of, part_skeletons, has_inside, Lawful, Flights, no_flights}
-use Rattle.txn_model.specs.Table.{TableState, Batch, flights_with, is_fenced}
+use Rattle.txn_model.specs.Table.{TableState, Batch, nothing, in_coord, in_topic, in_sub, flights_with, is_fenced}
 use Rattle.txn_model.specs.Shape.{Shaped}
 
 -- The coordinator's log of a world, with the flight behind it.
@@ -37,6 +37,13 @@ pub record AllowedFlights (w : World) (f : Flights) : Type 0 where
 -- Over the world w the batch is allowed: alone in flight, it would be.
 abbrev pub IsAllowed : Batch → World → Type 0
 IsAllowed b w = AllowedFlights w (flights_with b no_flights)
+
+-- In a state, the part of a batch is rebuilt.
+abbrev pub IsWhole : Batch → TableState → Type 0
+IsWhole nothing t = Unit {0}
+IsWhole (in_coord e) t = is_fenced t 0 ≡ false
+IsWhole (in_topic p es) t = is_fenced t p ≡ false
+IsWhole (in_sub p e) t = is_fenced t p ≡ false
 
 -- Only a part that isn't rebuilt has a flight.
 pub record FlightsAreFenced (t : TableState) : Type 0 where
