@@ -1,5 +1,5 @@
 -- What the files of a disk stand for, and when they are sound. There is no file for the catalog yet: its names are given.
-use Rattle.std.specs.Prelude.{◌≡◌, ℕ, ◌<◌, ◌≤◌, true, List, [], ◌∷◌, length}
+use Rattle.std.specs.Prelude.{◌≡◌, ◌⊎◌, ℕ, Bool, ◌<◌, ◌≤◌, true, List, [], ◌∷◌, ◌++◌, length}
 use Rattle.txn_base.specs.declared.file_id.FileId.{FileId}
 use Rattle.txn_base.specs.declared.entry.TopicEntry.{TopicEntry}
 use Rattle.txn_base.specs.Disk.{Files}
@@ -8,7 +8,7 @@ use Rattle.txn_base.specs.Frames.{Record, Batch, records, Stands}
 use Rattle.txn_base.specs.Records.{IsCoordRecord, IsTopicRecord, IsAckRecord}
 use Rattle.txn_model.specs.declared.world.World.{World}
 use Rattle.txn_model.specs.Words.{has, list_at}
-use Rattle.txn_model.specs.World.{Lawful}
+use Rattle.txn_model.specs.World.{Lawful, Flights, kept}
 use Rattle.txn_model.specs.Shape.{topic_parts, sub_parts, Shaped}
 
 -- The file of this row of the part p; its ledger is that of row 2.
@@ -53,3 +53,21 @@ pub record StandsFor (names : List (List ℕ)) (files : Files) (w : World) : Typ
 -- With these names, the files are sound: they stand for a lawful world.
 abbrev pub Sound : List (List ℕ) → Files → Type 0
 Sound names files = (w : World) × StandsFor names files w × Lawful w
+
+-- With these names, the files stand for what a stop keeps of the world w and the flights f.
+abbrev pub StandsForKept : List (List ℕ) → Files → World → Flights → Type 0
+StandsForKept names files w f = (stays : ℕ → Bool) × StandsFor names files (kept w f stays)
+
+-- By what `is` says, these bytes stand for these entries, or for them with the flight behind them.
+abbrev pub StandsForEither : {E : Type 0} → (Record → E → Type 0) → List ℕ → List E → List E → Type 0
+StandsForEither is bytes entries flight = StandsForEntries is bytes entries ⊎ StandsForEntries is bytes (entries ++ flight)
+
+-- With these names, each ledger's file stands for its list in the world w with its flight or without, part by part, and
+-- there is no other.
+pub record LedgersStand (names : List (List ℕ)) (files : Files) (w : World) (f : Flights) : Type 0 where
+  pub named : w.names ≡ names
+  pub shaped : Shaped w
+  pub coord : StandsForEither IsCoordRecord (files (ledger_file 0)) w.coord f.coord
+  pub topics : (p : ℕ) → has (topic_parts names) p ≡ true → StandsForEither IsBareRecord (files (ledger_file p)) (list_at w.topics p) (f.topics p)
+  pub subs : (p : ℕ) → has (sub_parts names) p ≡ true → StandsForEither IsAckRecord (files (ledger_file p)) (list_at w.subs p) (f.subs p)
+  pub others : NoOthers names files

@@ -9,9 +9,11 @@ ghost use Rattle.txn_base.specs.Records.{IsCoordRecord, IsAckRecord};
 ghost use Rattle.txn_base.specs.Decoded.{coord_entry_of, topic_entry_of, ack_entry_of, coord_entries, topic_entries, ack_entries};
 ghost use Rattle.txn_model.specs.declared.world.World.{World};
 ghost use Rattle.txn_model.specs.Words.{has, list_at};
-ghost use Rattle.txn_model.specs.Table.{in_coord, in_topic, in_sub, world_with};
+ghost use Rattle.txn_model.specs.Table.{TableState, in_coord, in_topic, in_sub, world_with};
 ghost use Rattle.txn_model.specs.Shape.{topic_parts, sub_parts};
-ghost use Rattle.txn_model.specs.Sound.{ledger_file, StandsForEntries, IsBareRecord, StandsFor};
+ghost use Rattle.txn_model.specs.Sound.{ledger_file, StandsForEntries, IsBareRecord, StandsFor, Sound, StandsForKept, LedgersStand};
+ghost use Rattle.txn_model.specs.World.{Flights};
+ghost use Rattle.txn_model.specs.Allowed.{LawfulState};
 
 /// Files stand for one world.
 pub fn one_world()
@@ -49,4 +51,11 @@ pub fn changes_behind_the_list_stand()
         → StandsForEntries IsBareRecord (files' (ledger_file p)) (list_at w.topics p) → StandsFor names files' w }
     ensures sub { (names : List (List ℕ)) (files files' : Files) (w : World) → StandsFor names files w → (p : ℕ) → has (sub_parts names) p ≡ true → Elsewhere (ledger_file p) files files'
         → StandsForEntries IsAckRecord (files' (ledger_file p)) (list_at w.subs p) → StandsFor names files' w }
+{}
+
+/// Where each ledger's file stands for its list with its flight or without, part by part, the files stand for what a stop
+/// keeps; and they are sound where the table's state is lawful.
+pub fn kept_ledgers_stand()
+    ensures ledgers { (names : List (List ℕ)) (files : Files) (w : World) (f : Flights) → LedgersStand names files w f → StandsForKept names files w f }
+    ensures sound { (names : List (List ℕ)) (files : Files) (t : TableState) → LawfulState t → StandsForKept names files t.world t.flights → Sound names files }
 {}
