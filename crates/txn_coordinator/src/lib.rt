@@ -12,3 +12,6 @@ mod table;
 
 pub use coordinator::Coordinator;
 pub use error::CoordError;
+
+#[cfg(test)]
+mod tests;
