@@ -1,5 +1,5 @@
 //! The replay of the log, in steps.
-ghost use Rattle.std.specs.Prelude.{◌≡◌, ◌≤◌, ◌<◌, ◌+◌, ℕ, length, Err, IsErr, IsTrue, IsOk, IfOk, OnOk, OnErr, if◌then◌else◌};
+ghost use Rattle.std.specs.Prelude.{◌≡◌, ◌≤◌, ◌<◌, ◌+◌, ℕ, length, Err, IsErr, IsTrue, IsOk, IfOk, IfErr, OnOk, OnErr, if◌then◌else◌};
 ghost use Rattle.txn_base.specs.declared.file_id.FileId.{FileId};
 ghost use Rattle.txn_base.specs.Content.{looked_at, Backed, Settles};
 ghost use Rattle.txn_base.specs.Disk.{Since, CountsFaults};
@@ -59,6 +59,7 @@ impl<R: RecordLog> Coordinator<R> {
         ensures ok { OnOk result (Mends self.old self.new) }
         ensures told { IfOk result (λ progress. progress ≡ record { at = length (self.new).front; total = length_of self.new }) }
         ensures err { OnErr result (Stays self.old self.new) }
+        ensures settled { IfErr result (λ e. (e ≡ MendError.Fault → ⊥) → IsSettledFrom (self.old).content (self.new).content) }
         ensures read { D.tells → OnOk result (AreRecordsTo (self.new).content (length (self.old).front) (length (self.new).front) (self.new).front) }
         ensures damaged { (place : ℕ) → result ≡ Err (MendError.Damaged place) → (length (self.old).front ≤ place) × (place < length (self.old).front + (self.old).limits.step) }
         ensures bad { D.tells → IsFrontOf self.old → (place : ℕ) → result ≡ Err (MendError.Damaged place) → IsBadRecord (self.new).content place }
