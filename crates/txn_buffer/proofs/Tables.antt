@@ -264,3 +264,7 @@ allowed_in v w e same allowed = ap (λ (u : FrontView). part_allows (topic_skele
 pub none_copied : {X : Type 0} (o : Option (Bor X)) (p : Option X) → option_copied o ≡ p → is_some o ≡ false → is_none p ≡ true
 none_copied None p same none = ap is_none (sym same)
 none_copied (Some x) p same none = absurd (no_true (sym none))
+
+-- a message leaves the markers
+pub unmarked_after : (all : List CoreEntry) (x : TxnId) → marker_of all x ≡ None → marker_of (all ++ core.Inside x ∷ []) x ≡ None
+unmarked_after all x h = same_markers all (core.Inside x) (λ y. refl) x ∙ h

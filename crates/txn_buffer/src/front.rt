@@ -1,8 +1,11 @@
 //! The front of a topic's list that was replayed: which markers stand there, and where the limit is.
-ghost use Rattle.std.specs.Prelude.{◌≡◌, ◌<◌, ◌≤◌, ◌+◌, ◌-◌, ◌^◌, [], ◌∷◌, ◌++◌, length, true, OnOk, OnErr, All};
+ghost use Rattle.std.specs.Prelude.{◌≡◌, ◌<◌, ◌≤◌, ◌+◌, ◌-◌, ◌^◌, [], ◌∷◌, ◌++◌, length, map, true, OnOk, OnErr, All};
 ghost use Rattle.std.specs.VecDeque.{deque_len, deque_capacity};
 ghost use Rattle.indexmap.specs.IndexMap.{get};
 ghost use Rattle.txn_base.specs.Decoded.{topic_entries};
+ghost use Rattle.txn_base.specs.Bytes.{contents_of};
+ghost use Rattle.txn_base.specs.Decoded.{topic_entry_of};
+ghost use Rattle.txn_buffer.specs.Adding.{message_kind, IsUnmarked, IsMessageOf, opens_for};
 ghost use Rattle.txn_buffer.specs.Front.{waiting, key_of, same_key, opens_of, ends_of};
 ghost use Rattle.txn_base.specs.declared.core_entry.CoreEntry.TheVariants as core;
 ghost use Rattle.txn_base.specs.Records.{IsTopicEntry};
@@ -14,7 +17,7 @@ use indexmap::IndexMap;
 use std::alloc::{AllocError, Global};
 use std::collections::VecDeque;
 use std::marker::Model;
-use txn_base::{ContentCarrier, CoreEntry, Decision, FileId, ReadsContent, TxnId};
+use txn_base::{Bytes, ContentCarrier, CoreEntry, Decision, FileId, ReadsContent, TxnId};
 
 /// What is kept of the front of a topic's list: neither entries nor bodies. Contracts see the entries, as ghost data.
 #[derive(Drop)]
@@ -118,6 +121,34 @@ impl Front {
         }
     }
 
+    /// Adds entries, each allowed after those before it.
+    pub fn add_all(&mut self, added: &[TopicRecord])
+        requires count { length self.old.entries + length added.now < 2 ^ 64 }
+        requires lawful { TopicLawful (self.old.entries ++ added.now) }
+        requires opens { length added.now ≤ self.old.opens }
+        requires ends { length added.now ≤ self.old.ends }
+        ensures { self.new.entries ≡ self.old.entries ++ added.now }
+    {
+        for one in added {
+            self.add(one);
+        }
+    }
+
+    /// Adds messages of a transaction without a marker, or of none.
+    pub fn add_messages(&mut self, txn: Option<TxnId>, batch: &[Bytes])
+        requires count { length self.old.entries + length batch.now < 2 ^ 64 }
+        requires unmarked { IsUnmarked self.old.entries txn }
+        requires opens { opens_for txn (length batch.now) ≤ self.old.opens }
+        requires each { All (IsMessageOf txn) (contents_of batch.now) }
+        ensures entries { self.new.entries ≡ self.old.entries ++ map topic_entry_of (contents_of batch.now) }
+        ensures ends { self.old.ends ≤ self.new.ends }
+    {
+        let kind = kind_of(txn);
+        for bytes in batch {
+            self.add(&TopicRecord::of(bytes, kind));
+        }
+    }
+
     fn add_plain(&mut self, added: &TopicRecord)
         requires count { length self.old.entries + 1 < 2 ^ 64 }
         requires kind { topic_skeleton added.now ≡ core.Plain }
@@ -156,6 +187,16 @@ impl Front {
         drop_decided(&self.decisions, &mut self.pending);
         self.carrier = joined(&self.carrier, added);
         self.count += 1;
+    }
+}
+
+/// The skeleton of a message, of a transaction or of none.
+fn kind_of(txn: Option<TxnId>) -> CoreEntry
+    ensures { result ≡ message_kind txn }
+{
+    match txn {
+        Some(txn) => CoreEntry::Inside { txn },
+        None => CoreEntry::Plain,
     }
 }
 

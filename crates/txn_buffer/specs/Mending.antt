@@ -1,0 +1,64 @@
+-- What a step of a replay does.
+use Rattle.std.specs.Prelude.{◌≡◌, ◌⊎◌, ℕ, ◌+◌, ◌-◌, ◌<◌, ◌≤◌, ◌==◌, min, false, List, [], ◌++◌, length, take, All, slice_index_or}
+use Rattle.txn_base.specs.declared.entry.TopicEntry.{TopicEntry}
+use Rattle.txn_base.specs.declared.part.Progress.{Progress}
+use Rattle.txn_base.specs.Content.{LedgerContent, IsInFlight, settled, kept, dropped}
+use Rattle.txn_base.specs.Decoded.{topic_entry_of, topic_entries}
+use Rattle.txn_base.specs.Frames.{Record, Batch, records}
+use Rattle.txn_model.specs.Skeletons.{topic_skeleton, topic_skeletons}
+use Rattle.txn_model.specs.Topic.{part_allows, TopicLawful}
+use Rattle.txn_buffer.specs.Record.{IsInGrammar, IsOutside}
+use Rattle.txn_buffer.specs.View.{TopicView, total_of}
+
+-- The content is as it was, or what was in flight was settled.
+abbrev pub IsSettledFrom : LedgerContent → LedgerContent → Type 0
+IsSettledFrom before after = (after ≡ before) ⊎ (IsInFlight before.standing × ((after ≡ kept before) ⊎ (after ≡ dropped before)))
+
+-- With a list of so many records, a step goes over as many as the bound, or over all that are left.
+abbrev pub step_of : TopicView → ℕ → ℕ
+step_of v total = min v.limits.step (total - length v.front)
+
+-- The list is settled, the front has grown by the records of the step, and the topic is whole exactly where none is left.
+pub record IsStepOf (before after : TopicView) (told : Progress) : Type 0 where
+  pub settled_now : after.content.standing ≡ settled
+  pub more : List TopicEntry
+  pub front : after.front ≡ before.front ++ more
+  pub count : length more ≡ step_of before (total_of after)
+  pub at : told.at ≡ length after.front
+  pub total : told.total ≡ total_of after
+  pub whole : after.whole ≡ (told.at == told.total)
+  pub part : after.part ≡ before.part
+  pub reserved : after.reserved ≡ before.reserved
+  pub limits : after.limits ≡ before.limits
+
+-- A refused step leaves all but the content.
+pub record IsUnchangedBut (before after : TopicView) : Type 0 where
+  pub front : after.front ≡ before.front
+  pub part : after.part ≡ before.part
+  pub whole : after.whole ≡ before.whole
+  pub reserved : after.reserved ≡ before.reserved
+  pub limits : after.limits ≡ before.limits
+
+-- The place is one of those of the step.
+pub record IsInStep (v : TopicView) (total place : ℕ) : Type 0 where
+  pub from : length v.front ≤ place
+  pub to : place < length v.front + step_of v total
+
+-- The record is in no grammar, or its entry isn't allowed after these.
+abbrev pub IsBad : List TopicEntry → Record → Type 0
+IsBad before bytes = IsOutside bytes ⊎ (part_allows (topic_skeletons before) (topic_skeleton (topic_entry_of bytes)) ≡ false)
+
+-- The record at this place is the first bad one.
+pub record IsFirstBad (batches : List Batch) (place : ℕ) : Type 0 where
+  pub bad : IsBad (take place (topic_entries batches)) (slice_index_or (records batches) place [])
+  pub lawful : TopicLawful (take place (topic_entries batches))
+  pub grammar : All IsInGrammar (take place (records batches))
+
+-- The topic, with this front.
+abbrev pub with_front : TopicView → List TopicEntry → TopicView
+with_front v front = record { content = v.content; front = front; part = v.part; whole = v.whole; reserved = v.reserved; limits = v.limits }
+
+-- The entry of the record at this place, which is in the grammar.
+pub record IsEntryAt (batches : List Batch) (place : ℕ) (entry : TopicEntry) : Type 0 where
+  pub entry_is : entry ≡ topic_entry_of (slice_index_or (records batches) place [])
+  pub grammar : IsInGrammar (slice_index_or (records batches) place [])
