@@ -17,9 +17,10 @@ use Rattle.txn_base.specs.Frames.{Record, Batch, IsRecord, record_bytes, body_of
 use Rattle.txn_base.specs.Limits.{InRange}
 use Rattle.txn_base.specs.Records.{topic_record}
 use Rattle.txn_base.specs.Room.{Roomy}
+use Rattle.txn_model.specs.Entries.{message_entry}
 use Rattle.txn_model.specs.Skeletons.{topic_skeleton, topic_skeletons}
 use Rattle.txn_model.specs.Topic.{marker_of, part_allows}
-use Rattle.txn_buffer.specs.Adding.{IsBodyWithin, AreBodies, IsPublished, ArePublished, message_of, messages_of, message_kind, IsMessageOf, IsUnmarked, opens_for}
+use Rattle.txn_buffer.specs.Adding.{IsBodyWithin, AreBodies, IsPublished, ArePublished, messages_of, message_kind, IsMessageOf, IsUnmarked, opens_for}
 use Rattle.txn_buffer.specs.Front.{opens_of, ends_of}
 use Rattle.txn_buffer.specs.Record.{IsInGrammar}
 use Rattle.txn_buffer.specs.View.{batch_of}
@@ -38,16 +39,16 @@ contents-more xs i x is within =
     ap contents_of (take_more xs i x within) ∙ contents-push (take i xs) (get_or xs i x) ∙ ap (λ (b : Roomy). contents_of (take i xs) ++ b.bytes ∷ []) (sym is)
 
 module _ (txn : Option TxnId) (bodies : List Roomy) (i : ℕ) (body : Roomy) (is : body ≡ get_or bodies i body) (within : i < length bodies) (batch more : List Roomy) (bytes : Roomy) (pushed : more ≡ batch ++ bytes ∷ []) where
-  messages-more : messages_of txn (contents_of (take (i + 1) bodies)) ≡ messages_of txn (contents_of (take i bodies)) ++ message_of txn body.bytes ∷ []
-  messages-more = ap (messages_of txn) (contents-more bodies i body is within) ∙ map-append (message_of txn) (contents_of (take i bodies)) (body.bytes ∷ [])
+  messages-more : messages_of txn (contents_of (take (i + 1) bodies)) ≡ messages_of txn (contents_of (take i bodies)) ++ message_entry txn body.bytes ∷ []
+  messages-more = ap (messages_of txn) (contents-more bodies i body is within) ∙ map-append (message_entry txn) (contents_of (take i bodies)) (body.bytes ∷ [])
 
-  pub batch_more : contents_of batch ≡ batch_of (messages_of txn (contents_of (take i bodies))) → bytes.bytes ≡ topic_record 1 (message_of txn body.bytes)
+  pub batch_more : contents_of batch ≡ batch_of (messages_of txn (contents_of (take i bodies))) → bytes.bytes ≡ topic_record 1 (message_entry txn body.bytes)
       → contents_of more ≡ batch_of (messages_of txn (contents_of (take (i + 1) bodies)))
   batch_more so_far one =
       ap contents_of pushed ∙ contents-push batch bytes ∙ ap (λ l. l ++ bytes.bytes ∷ []) so_far ∙ ap (λ b. batch_of (messages_of txn (contents_of (take i bodies))) ++ b ∷ []) one
-      ∙ sym (ap batch_of messages-more ∙ map-append (topic_record 1) (messages_of txn (contents_of (take i bodies))) (message_of txn body.bytes ∷ []))
+      ∙ sym (ap batch_of messages-more ∙ map-append (topic_record 1) (messages_of txn (contents_of (take i bodies))) (message_entry txn body.bytes ∷ []))
 
-  pub entries_more : map topic_entry_of (contents_of batch) ≡ messages_of txn (contents_of (take i bodies)) → topic_entry_of bytes.bytes ≡ message_of txn body.bytes
+  pub entries_more : map topic_entry_of (contents_of batch) ≡ messages_of txn (contents_of (take i bodies)) → topic_entry_of bytes.bytes ≡ message_entry txn body.bytes
       → map topic_entry_of (contents_of more) ≡ messages_of txn (contents_of (take (i + 1) bodies))
   entries_more so_far one =
       ap (λ (l : List Roomy). map topic_entry_of (contents_of l)) pushed ∙ ap (map topic_entry_of) (contents-push batch bytes) ∙ map-append topic_entry_of (contents_of batch) (bytes.bytes ∷ [])
@@ -81,13 +82,13 @@ pub are_messages : (txn : Option TxnId) (rs : List Record) (bodies : List (List 
 are_messages txn rs bodies same grammar = λ k d h. record {
   grammar = grammar k d h;
   kind =
-      kinds txn (get_or bodies k d) ∙ ap topic_skeleton (sym (get_or-map (message_of txn) bodies k d (topic_entry_of d) (omega (arith, h, lengths)))
+      kinds txn (get_or bodies k d) ∙ ap topic_skeleton (sym (get_or-map (message_entry txn) bodies k d (topic_entry_of d) (omega (arith, h, lengths)))
       ∙ ap (λ (l : List TopicEntry). get_or l k (topic_entry_of d)) (sym same) ∙ get_or-map topic_entry_of rs k d (topic_entry_of d) h);
 }
   where
     lengths : length rs ≡ length bodies
-    lengths = sym (length-map rs topic_entry_of) ∙ ap length same ∙ length-map bodies (message_of txn)
-    kinds : (t : Option TxnId) (body : List ℕ) → message_kind t ≡ topic_skeleton (message_of t body)
+    lengths = sym (length-map rs topic_entry_of) ∙ ap length same ∙ length-map bodies (message_entry txn)
+    kinds : (t : Option TxnId) (body : List ℕ) → message_kind t ≡ topic_skeleton (message_entry t body)
     kinds None body = refl
     kinds (Some x) body = refl
 

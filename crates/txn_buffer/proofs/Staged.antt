@@ -1,23 +1,26 @@
 -- Records behind the front, tested one by one.
-use Rattle.std.proofs.Common.{◌≡◌, ◌⊎◌, inl, inr, ℕ, suc, ◌+◌, ◌-◌, ◌<◌, ◌≤◌, min, Bool, true, false, not, ◌&&◌, List, [], ◌∷◌, ◌++◌, length, get_or, take, drop, drop-cons, map, Some, None, refl, sym, ap, ◌∙◌, subst, arith, append_assoc, length-append}
+use Rattle.std.proofs.Common.{◌≡◌, ◌⊎◌, inl, inr, ℕ, suc, ◌+◌, ◌-◌, ◌<◌, ◌≤◌, min, Bool, true, false, not, eq-eqb, ◌==◌, ◌&&◌, if◌then◌else◌, List, [], ◌∷◌, ◌++◌, length, get_or, take, drop, drop-cons, map, Some, None, refl, sym, ap, ◌∙◌, subst, arith, append_assoc, length-append}
 use Rattle.std.specs.Prelude.{Result, Err, Option, All, is_none, is_some}
 use Rattle.std.specs.Option.{option_or}
 use Rattle.std.proofs.lemmas.List.{map-append, take_more, append-nil, take-append-drop, get_or-map, get_or-take, length-map, length-take}
 use Rattle.txn_base.specs.declared.txn.TxnId.{TxnId}
 use Rattle.txn_base.specs.declared.txn.Decision.{Decision}
+use Rattle.txn_base.specs.declared.txn.Decision.TheVariants.{Commit, Abort}
 use Rattle.txn_base.specs.declared.core_entry.CoreEntry.{CoreEntry}
+use Rattle.txn_base.specs.declared.core_entry.CoreEntry.TheVariants as core
 use Rattle.txn_base.specs.declared.entry.TopicEntry.{TopicEntry}
 use Rattle.txn_model.specs.Words.{all_follow}
 use Rattle.txn_model.specs.Skeletons.{topic_skeleton, topic_skeletons}
 use Rattle.txn_model.specs.Topic.{marks, marker_of, part_allows, TopicLawful}
 use Rattle.txn_model.proofs.Prefixes.{first_of-append, all_follow-append}
 use Rattle.txn_model.proofs.Bools.{and_l, and_r}
+use Rattle.txn_records.specs.Topics.{marker_of as marker_entry}
 use Rattle.txn_buffer.proofs.Tables.{no_true, skeletons-push}
 
 marker-append : (xs ys : List TopicEntry) (x : TxnId) → marker_of (topic_skeletons (xs ++ ys)) x ≡ option_or (marker_of (topic_skeletons xs) x) (marker_of (topic_skeletons ys) x)
 marker-append xs ys x = ap (λ l. marker_of l x) (map-append topic_skeleton xs ys) ∙ first_of-append (marks x) (topic_skeletons xs) (topic_skeletons ys)
 
-none_of : {V : Type 0} (o : Option V) → is_some o ≡ false → o ≡ None
+pub none_of : {V : Type 0} (o : Option V) → is_some o ≡ false → o ≡ None
 none_of None h = refl
 none_of (Some v) h = absurd (no_true (sym h))
 
@@ -84,3 +87,18 @@ allowed_in_order front so_far added i e is within so lawful =
 -- the error that is handed on is the one that was met
 pub same_error : {T U E : Type 0} (r : Result U E) (x y z : E) → r ≡ Err x → x ≡ y → r ≡ Err z → ◌≡◌ {A = Result T E} (Err y) (Err z)
 same_error r x y z handed is told = let e : y ≡ z = cc in ap (λ w. Err w) e
+
+-- ---- A marker behind the front.
+
+pub marker_kind : (x : TxnId) (d : Decision) → core.Marker x d ≡ topic_skeleton (marker_entry x d)
+marker_kind x Commit = refl
+marker_kind x Abort = refl
+
+pub marker_allowed : (front : List TopicEntry) (e : TopicEntry) (x : TxnId) (d : Decision) → e ≡ marker_entry x d → marker_of (topic_skeletons front) x ≡ None → part_allows (topic_skeletons front) (topic_skeleton e) ≡ true
+marker_allowed front e x d is none = ap (part_allows (topic_skeletons front)) (ap topic_skeleton is ∙ sym (marker_kind x d)) ∙ ap is_none none
+
+pub marker_stands : (front : List TopicEntry) (x : TxnId) (d : Decision) → marker_of (topic_skeletons front) x ≡ None → marker_of (topic_skeletons (front ++ marker_entry x d ∷ [])) x ≡ Some d
+marker_stands front x d none =
+    marker-append front (marker_entry x d ∷ []) x ∙ ap (λ o. option_or o (option_or (marks x (topic_skeleton (marker_entry x d))) None)) none
+    ∙ ap (λ k. option_or (marks x k) None) (sym (marker_kind x d))
+    ∙ ap (λ b. option_or (if b then Some d else None) None) (ap (λ b. b && (x.least == x.least)) (eq-eqb x.most x.most refl) ∙ eq-eqb x.least x.least refl)

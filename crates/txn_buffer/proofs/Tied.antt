@@ -108,3 +108,7 @@ tied_settled v k within from tied = ⊎_elim (λ same. stays k (ap (λ (l : Ledg
     kept_is settled same = stays k same
     kept_is looked_at same = stays k same
     kept_is (in_flight batch) same = tied_longer v k (batch ∷ []) within same tied
+
+-- so many records with a batch more
+pub records_after : (batches : List Batch) (batch : Batch) → length (records (batches ++ batch ∷ [])) ≡ length (records batches) + length batch
+records_after batches batch = ap length (records-push batches batch) ∙ length-append (records batches) batch

@@ -11,20 +11,21 @@ use Rattle.txn_base.specs.declared.entry.TopicEntry.{TopicEntry}
 use Rattle.txn_base.specs.declared.entry.TopicEntry.TheVariants as topic
 use Rattle.txn_base.specs.declared.limits.Limits.{Limits}
 use Rattle.txn_model.specs.Skeletons.{topic_skeleton, topic_skeletons}
-use Rattle.txn_model.specs.Topic.{marker_of, is_undecided, limit_from, limit_of, message, shown_where, shows, visible_from, visible_of, read_slice, cut_short, first_and_fitting}
+use Rattle.txn_model.specs.Topic.{marker_of, is_undecided, limit_from, limit_of, shown_where, shows, visible_from, visible_of, read_slice, cut_short, first_and_fitting}
+use Rattle.txn_model.specs.Entries.{message_at}
 use Rattle.txn_model.proofs.Showing.{visible_split}
 use Rattle.txn_buffer.specs.Reading.{rest_of, visible_later}
 use Rattle.txn_buffer.proofs.Tables.{no_true}
 
 -- what an entry shows stands at its place
 shows_at : (P : ℕ → Type 0) (all : List CoreEntry) (k : ℕ) (e : TopicEntry) → P k → All (λ m. P m.place) (option_to_list (shows all k e))
-shows_at P all k (topic.Plain body) h = All-cons (λ (m : Message). P m.place) (message k body.bytes) [] h (All-nil (λ (m : Message). P m.place))
+shows_at P all k (topic.Plain body) h = All-cons (λ (m : Message). P m.place) (message_at k body.bytes) [] h (All-nil (λ (m : Message). P m.place))
 shows_at P all k (topic.Opened x body) h = at (marker_of all x)
   where
-    at : (o : Option Decision) → All (λ m. P m.place) (option_to_list (shown_where o (message k body.bytes)))
+    at : (o : Option Decision) → All (λ m. P m.place) (option_to_list (shown_where o (message_at k body.bytes)))
     at None = All-nil (λ (m : Message). P m.place)
     at (Some Abort) = All-nil (λ (m : Message). P m.place)
-    at (Some Commit) = All-cons (λ (m : Message). P m.place) (message k body.bytes) [] h (All-nil (λ (m : Message). P m.place))
+    at (Some Commit) = All-cons (λ (m : Message). P m.place) (message_at k body.bytes) [] h (All-nil (λ (m : Message). P m.place))
 shows_at P all k (topic.Commit x) h = All-nil (λ (m : Message). P m.place)
 shows_at P all k (topic.Abort x) h = All-nil (λ (m : Message). P m.place)
 

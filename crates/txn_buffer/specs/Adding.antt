@@ -1,15 +1,15 @@
 -- The messages that a publish adds.
-use Rattle.std.specs.Prelude.{◌≡◌, ◌⊎◌, ℕ, ◌≤◌, List, length, map, All, Option, Some, None, IsUtf8}
+use Rattle.std.specs.Prelude.{◌≡◌, ℕ, ◌≤◌, List, length, map, All, Option, Some, None, IsUtf8}
 use Rattle.txn_base.specs.declared.entry.TopicEntry.{TopicEntry}
 use Rattle.txn_base.specs.declared.entry.TopicEntry.TheVariants as topic
 use Rattle.txn_base.specs.declared.core_entry.CoreEntry.{CoreEntry}
 use Rattle.txn_base.specs.declared.core_entry.CoreEntry.TheVariants as core
 use Rattle.txn_base.specs.declared.limits.Limits.{Limits}
-use Rattle.txn_base.specs.declared.txn.Decision.{Decision}
 use Rattle.txn_base.specs.declared.txn.TxnId.{TxnId}
 use Rattle.txn_base.specs.Bytes.{only_bytes}
 use Rattle.txn_base.specs.Decoded.{topic_entry_of}
 use Rattle.txn_base.specs.Frames.{Record}
+use Rattle.txn_model.specs.Entries.{message_entry}
 use Rattle.txn_model.specs.Skeletons.{topic_skeleton, topic_skeletons}
 use Rattle.txn_model.specs.Topic.{marker_of}
 use Rattle.txn_buffer.specs.Record.{IsInGrammar}
@@ -36,15 +36,11 @@ pub record ArePublished (bodies : List (List ℕ)) : Type 0 where
   pub few : length bodies ≤ 64
   pub each : All IsPublished bodies
 
--- A message with this body, of a transaction or of none.
-abbrev pub message_of : Option TxnId → List ℕ → TopicEntry
-message_of None body = topic.Plain (only_bytes body)
-message_of (Some x) body = topic.Opened x (only_bytes body)
-
+-- Messages with these bodies, of a transaction or of none.
 abbrev pub messages_of : Option TxnId → List (List ℕ) → List TopicEntry
-messages_of txn bodies = map (message_of txn) bodies
+messages_of txn bodies = map (message_entry txn) bodies
 
--- Its skeleton.
+-- The skeleton of such a message.
 abbrev pub message_kind : Option TxnId → CoreEntry
 message_kind None = core.Plain
 message_kind (Some x) = core.Inside x
@@ -63,7 +59,3 @@ IsUnmarked entries (Some x) = marker_of (topic_skeletons entries) x ≡ None
 abbrev pub opens_for : Option TxnId → ℕ → ℕ
 opens_for None count = 0
 opens_for (Some x) count = count
-
--- There is no decision, or it is this one.
-abbrev pub IsNoneOr : Decision → Option Decision → Type 0
-IsNoneOr decision found = (found ≡ None) ⊎ (found ≡ Some decision)

@@ -1,4 +1,5 @@
 pub mod Adding
+pub mod Ending
 pub mod Front
 pub mod Mending
 pub mod Reading

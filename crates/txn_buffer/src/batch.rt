@@ -4,7 +4,8 @@ ghost use Rattle.txn_base.specs.Bytes.{contents_of, only_bytes};
 ghost use Rattle.txn_base.specs.Decoded.{topic_entry_of};
 ghost use Rattle.txn_base.specs.Frames.{IsRecord, frame};
 ghost use Rattle.txn_base.specs.Records.{IsBody, topic_record};
-ghost use Rattle.txn_buffer.specs.Adding.{message_of, messages_of, IsPublished};
+ghost use Rattle.txn_model.specs.Entries.{message_entry};
+ghost use Rattle.txn_buffer.specs.Adding.{messages_of, IsPublished};
 ghost use Rattle.txn_buffer.specs.Record.{IsInGrammar};
 ghost use Rattle.txn_buffer.specs.View.{batch_of};
 
@@ -15,8 +16,8 @@ use txn_records::{opened_record, plain_record};
 /// The record of a message, of a transaction or of none.
 pub fn record_of(alloc: Global, txn: Option<TxnId>, body: &Bytes) -> Result<Bytes, AllocError>
     requires { IsPublished body.now.bytes }
-    ensures bytes { IfOk result (λ b. b.bytes ≡ topic_record 1 (message_of txn body.now.bytes)) }
-    ensures entry { IfOk result (λ b. topic_entry_of b.bytes ≡ message_of txn body.now.bytes) }
+    ensures bytes { IfOk result (λ b. b.bytes ≡ topic_record 1 (message_entry txn body.now.bytes)) }
+    ensures entry { IfOk result (λ b. topic_entry_of b.bytes ≡ message_entry txn body.now.bytes) }
     ensures grammar { IfOk result (λ b. IsInGrammar b.bytes) }
 {
     match txn {

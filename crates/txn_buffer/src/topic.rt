@@ -7,6 +7,7 @@ ghost use Rattle.txn_model.specs.Skeletons.{topic_skeletons};
 ghost use Rattle.txn_model.specs.Topic.{marker_of, limit_of, TopicLawful};
 ghost use Rattle.txn_buffer.specs.View.{state_of, total_of};
 
+mod finish;
 mod mend;
 mod publish;
 mod read;

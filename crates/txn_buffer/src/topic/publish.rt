@@ -6,6 +6,8 @@ ghost use Rattle.txn_base.specs.Content.{Backed, Appends};
 ghost use Rattle.txn_base.specs.Disk.{Since, CountsFaults};
 ghost use Rattle.txn_base.specs.Frames.{frame};
 ghost use Rattle.txn_base.specs.Decoded.{topic_entry_of};
+ghost use Rattle.txn_model.specs.Skeletons.{topic_skeletons};
+ghost use Rattle.txn_model.specs.Topic.{marker_of};
 ghost use Rattle.txn_buffer.specs.Adding.{AreBodies, ArePublished, messages_of, IsUnmarked, opens_for};
 ghost use Rattle.txn_buffer.specs.Record.{IsInGrammar};
 ghost use Rattle.txn_buffer.specs.View.{IsFrontOf, batch_of, total_of, with_entries, fenced};
@@ -50,7 +52,7 @@ impl<R: RecordLog> Topic<R> {
         bodies: &[Bytes],
     ) -> Result<u64, TopicError>
         requires whole { IsTrue self.old.whole }
-        requires unmarked { IsUnmarked self.old.front (Some txn) }
+        requires unmarked { marker_of (topic_skeletons self.old.front) txn ≡ None }
         requires bodies { AreBodies self.old.limits (contents_of bodies.now) }
         requires backed { Backed R.stands (D.image disk.old) self.old.content }
         ensures first { IfOk result (λ place. place ≡ total_of self.old) }

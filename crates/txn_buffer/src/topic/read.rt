@@ -5,9 +5,10 @@ ghost use Rattle.txn_base.specs.Content.{Backed};
 ghost use Rattle.txn_base.specs.Decoded.{topic_entry_of};
 ghost use Rattle.txn_base.specs.Disk.{Since, Same, CountsFaults};
 ghost use Rattle.txn_base.specs.Frames.{records};
+ghost use Rattle.txn_model.specs.Entries as model;
 ghost use Rattle.txn_model.specs.Skeletons.{topic_skeleton, topic_skeletons};
-ghost use Rattle.txn_model.specs.Topic.{limit_of, message, read_slice, shows};
-ghost use Rattle.txn_records.specs.Topics.{IsMessage, message_body};
+ghost use Rattle.txn_model.specs.Topic.{limit_of, read_slice, shows};
+ghost use Rattle.txn_records.specs.Topics.{IsMessage};
 ghost use Rattle.txn_buffer.specs.Reads.{OnlyReads};
 ghost use Rattle.txn_buffer.specs.Reading.{ReadsUpTo, is_shown_after};
 ghost use Rattle.txn_buffer.specs.Record.{IsInGrammar, IsOutside};
@@ -120,7 +121,7 @@ fn is_shown(front: &Front, found: &TopicRecord) -> bool
 fn message_of(alloc: Global, bytes: &Bytes, place: u64) -> Result<Message, AllocError>
     requires grammar { IsInGrammar bytes.now.bytes }
     requires message { IsMessage (topic_entry_of bytes.now.bytes) }
-    ensures { IfOk result (λ m. m ≡ message place (message_body (topic_entry_of bytes.now.bytes))) }
+    ensures { IfOk result (λ m. m ≡ model.message_of place (topic_entry_of bytes.now.bytes)) }
 {
     let body = String::from_utf8_lossy(alloc, topic_body(bytes.as_slice()))?;
     Ok(Message {
