@@ -1,0 +1,14 @@
+pub mod Above
+pub mod DeskAnswers
+pub mod Feeding
+pub mod FirstState
+pub mod Keeping
+pub mod Left
+pub mod LineKinds
+pub mod OneTopicAnswers
+pub mod Published
+pub mod Reading
+pub mod Rebuilding
+pub mod Running
+pub mod Telling
+pub mod Worlds

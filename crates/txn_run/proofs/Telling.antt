@@ -1,0 +1,130 @@
+-- What stands after a line was told.
+use Rattle.std.proofs.Common.{◌⊎◌, IsTrue, true≢false, ◌≡◌, ℕ, ◌+◌, List, [], ◌∷◌, ◌++◌, length, take, map, Bool, true, false, Option, Result, Ok, Err, OnOk, OnErr, inl, inr, refl, sym, ap, ◌∙◌, subst, append_assoc, append-nil}
+use Rattle.std.specs.Io.KnownBytes.{Appends}
+use Rattle.std.proofs.KnownBytes.{Appends-trans}
+use Rattle.std.proofs.lemmas.Grind.{flat_map-append}
+use Rattle.std.proofs.Math.Seq.{take-append-add}
+use Rattle.txn_base.specs.Outside.{PutsAll}
+use Rattle.txn_base.specs.declared.limits.Limits.{Limits}
+use Rattle.txn_base.specs.declared.reply.Reply.{Reply}
+use Rattle.txn_base.specs.declared.reply.Reply.TheVariants as reply
+use Rattle.txn_base.specs.declared.reply.Refusal.TheVariants as no
+use Rattle.txn_model.specs.Replies.{Standing, Kind, Replied, Replies, is_fault}
+use Rattle.txn_wire.specs.Replies.{text_of}
+use Rattle.txn_wire.specs.Short.{is_long}
+use Rattle.txn_run.specs.Kinds.{line_kind, line_kinds}
+use Rattle.txn_run.specs.Told.{texts, ToldLine, ToldFront, ToldFault, Told, ToldToFault, CutOff, StandsFor, MayTell}
+
+-- ---- one reply, or want of memory in its place
+
+replied_instead : (limits : Limits) (s : Standing) (kind : Kind) (r told : Reply) (s' : Standing) → MayTell limits s kind r s' → StandsFor r told → Replied limits s kind (told ∷ []) s'
+replied_instead limits s kind r told s' h (inl e) = subst (λ x. Replied limits s kind (x ∷ []) s') (sym e) h.told
+replied_instead limits s kind r told s' h (inr e) = subst (λ x. Replied limits s kind (x ∷ []) s') (sym e.0) (h.instead e.1)
+
+text_of_one : (told : Reply) → text_of told ≡ texts (told ∷ [])
+text_of_one told = sym (append-nil (text_of told))
+
+pub told_line : (limits : Limits) (s : Standing) (kind : Kind) (r told : Reply) (s' : Standing) (old new : Option (List ℕ)) → MayTell limits s kind r s' → StandsFor r told → Appends old new (text_of told) → ToldLine limits s kind s' old new
+told_line limits s kind r told s' old new h stands put = (told ∷ [], replied_instead limits s kind r told s' h stands, subst (Appends old new) (text_of_one told) put)
+
+pub told_front : (limits : Limits) (s : Standing) (kind : Kind) (r told : Reply) (s' : Standing) (old new : Option (List ℕ)) (n : ℕ) → MayTell limits s kind r s' → StandsFor r told → Appends old new (take n (text_of told)) → ToldFront limits s kind s' old new
+told_front limits s kind r told s' old new n h stands put =
+    (told ∷ [], n, replied_instead limits s kind r told s' h stands, subst (λ x. Appends old new (take n x)) (text_of_one told) put)
+
+-- ---- what a call's result says
+
+pub puts_ok : {T E : Type 0} (old new : Option (List ℕ)) (r : Result T E) (bytes : List ℕ) (P : Type 0) → PutsAll old new r bytes → (Appends old new bytes → P) → OnOk r P
+puts_ok old new (Ok x) bytes P h k = k h
+puts_ok old new (Err e) bytes P h k = tt
+
+pub puts_err : {T E : Type 0} (old new : Option (List ℕ)) (r : Result T E) (bytes : List ℕ) (P : Type 0) → PutsAll old new r bytes → ((n : ℕ) → Appends old new (take n bytes) → P) → OnErr r P
+puts_err old new (Ok x) bytes P h k = tt
+puts_err old new (Err e) bytes P h k = k h.0 h.2
+
+-- ---- one more line
+
+pub replies_push : (limits : Limits) (s : Standing) (kinds : List Kind) (told : List Reply) (m : Standing) (kind : Kind) (more : List Reply) (s' : Standing) → Replies limits s kinds told m → Replied limits m kind more s' → Replies limits s (kinds ++ kind ∷ []) (told ++ more) s'
+replies_push limits s [] told m kind more s' h r =
+    let here = subst (λ x. Replied limits x kind more s') h.1 r in
+    (s', more, [], here, (refl, refl), ap (λ x. x ++ more) h.0 ∙ sym (append-nil more))
+replies_push limits s (k ∷ ks) told m kind more s' (mid, first, rest, a, b, e) r =
+    (mid, first, rest ++ more, a, replies_push limits mid ks rest m kind more s' b r, ap (λ x. x ++ more) e ∙ append_assoc first rest more)
+
+kinds_push : (limits : Limits) (lines : List (List ℕ)) (line : List ℕ) → line_kinds limits (lines ++ line ∷ []) ≡ line_kinds limits lines ++ line_kind limits line ∷ []
+kinds_push limits [] line = refl
+kinds_push limits (l ∷ ls) line = ap (λ ks. line_kind limits l ∷ ks) (kinds_push limits ls line)
+
+replies_line : (limits : Limits) (s : Standing) (lines : List (List ℕ)) (told : List Reply) (m : Standing) (line : List ℕ) (more : List Reply) (s' : Standing) → Replies limits s (line_kinds limits lines) told m → Replied limits m (line_kind limits line) more s'
+    → Replies limits s (line_kinds limits (lines ++ line ∷ [])) (told ++ more) s'
+replies_line limits s lines told m line more s' h r =
+    subst (λ ks. Replies limits s ks (told ++ more) s') (sym (kinds_push limits lines line)) (replies_push limits s (line_kinds limits lines) told m (line_kind limits line) more s' h r)
+
+pub told_push : (limits : Limits) (s : Standing) (lines : List (List ℕ)) (m : Standing) (line : List ℕ) (s' : Standing) (old mid new : Option (List ℕ)) → Told limits s lines m old mid → ToldLine limits m (line_kind limits line) s' mid new → Told limits s (lines ++ line ∷ []) s' old new
+told_push limits s lines m line s' old mid new so (more, r, put) = record {
+  told = so.told ++ more;
+  replies = replies_line limits s lines so.told m line more s' so.replies r;
+  put = subst (Appends old new) (sym (flat_map-append text_of so.told more)) (Appends-trans old mid new (texts so.told) (texts more) so.put put);
+}
+
+pub fault_push : (limits : Limits) (s : Standing) (lines : List (List ℕ)) (m : Standing) (line : List ℕ) (s' : Standing) (old mid new : Option (List ℕ)) → Told limits s lines m old mid → ToldFault limits m (line_kind limits line) s' mid new → ToldToFault limits s (lines ++ line ∷ []) s' old new
+fault_push limits s lines m line s' old mid new so (one, r, fault, put) = record {
+  told = so.told;
+  last = one;
+  replies = replies_line limits s lines so.told m line (one ∷ []) s' so.replies r;
+  fault = fault;
+  put = subst (Appends old new) (sym (flat_map-append text_of so.told (one ∷ []))) (Appends-trans old mid new (texts so.told) (texts (one ∷ [])) so.put put);
+}
+
+pub cut_off_push : (limits : Limits) (s : Standing) (lines : List (List ℕ)) (m : Standing) (line : List ℕ) (s' : Standing) (old mid new : Option (List ℕ)) → Told limits s lines m old mid → ToldFront limits m (line_kind limits line) s' mid new → CutOff limits s (lines ++ line ∷ []) s' old new
+cut_off_push limits s lines m line s' old mid new so (more, n, r, put) = record {
+  told = so.told ++ more;
+  count = length (texts so.told) + n;
+  replies = replies_line limits s lines so.told m line more s' so.replies r;
+  put = subst (Appends old new) (sym (ap (take (length (texts so.told) + n)) (flat_map-append text_of so.told more) ∙ take-append-add (texts so.told) (texts more) n)) (Appends-trans old mid new (texts so.told) (take n (texts more)) so.put put);
+}
+
+-- ---- a fault that was told
+
+-- A reply whose text is long tells of no fault.
+pub long_no_fault : (r : Reply) → is_long r ≡ true → is_fault r ≡ true → ⊥
+long_no_fault (reply.New a) long fault = cc
+long_no_fault reply.Add long fault = cc
+long_no_fault (reply.Publish a b) long fault = cc
+long_no_fault reply.Ack long fault = cc
+long_no_fault reply.AckUpTo long fault = cc
+long_no_fault (reply.Ended a b) long fault = cc
+long_no_fault (reply.Status a) long fault = cc
+long_no_fault (reply.Read a b) long fault = cc
+long_no_fault (reply.Receive a) long fault = cc
+long_no_fault reply.Redeliver long fault = cc
+long_no_fault (reply.Tick a b c) long fault = cc
+long_no_fault reply.Stop long fault = cc
+long_no_fault (reply.No no.TooLong) long fault = cc
+long_no_fault (reply.No no.BadLine) long fault = cc
+long_no_fault (reply.No no.BadTimeout) long fault = cc
+long_no_fault (reply.No no.BadPlaces) long fault = cc
+long_no_fault (reply.No no.TooBig) long fault = cc
+long_no_fault (reply.No no.NoMemory) long fault = cc
+long_no_fault (reply.No no.NotFound) long fault = cc
+long_no_fault (reply.No no.Empty) long fault = cc
+long_no_fault (reply.No (no.UnknownPart a)) long fault = cc
+long_no_fault (reply.No (no.WrongKind a)) long fault = cc
+long_no_fault (reply.No (no.UnknownCoordinator a)) long fault = cc
+long_no_fault (reply.No (no.NotOpen a)) long fault = cc
+long_no_fault (reply.No (no.NotRegistered a)) long fault = cc
+long_no_fault (reply.No (no.Fault a)) long fault = cc
+long_no_fault (reply.No (no.Recovering a b c)) long fault = cc
+long_no_fault (reply.No (no.Damaged a b)) long fault = cc
+long_no_fault (reply.No (no.Unread a b)) long fault = cc
+long_no_fault (reply.No (no.AlreadyAcked a)) long fault = cc
+long_no_fault (reply.No (no.Conflict a b)) long fault = cc
+long_no_fault (reply.No (no.Full a b)) long fault = cc
+
+pub told_fault : (limits : Limits) (s : Standing) (kind : Kind) (r told : Reply) (s' : Standing) (old new : Option (List ℕ)) → MayTell limits s kind r s' → StandsFor r told → is_fault r ≡ true → Appends old new (text_of told) → ToldFault limits s kind s' old new
+told_fault limits s kind r told s' old new h (inl e) fault put =
+    (told, subst (λ x. Replied limits s kind (x ∷ []) s') (sym e) h.told, ap is_fault e ∙ fault, subst (Appends old new) (text_of_one told) put)
+told_fault limits s kind r told s' old new h (inr e) fault put = absurd (long_no_fault r e.1 fault)
+
+pub not_whole : (whole fault : Bool) → whole ≡ false → IsTrue whole ⊎ (fault ≡ true) → fault ≡ true
+not_whole whole fault e (inl h) = absurd (true≢false (sym h ∙ e))
+not_whole whole fault e (inr h) = h

@@ -1,0 +1,21 @@
+use Rattle.std.proofs.Common.{◌≡◌, List, ℕ, Option, ◌∙◌, sym, subst}
+use Rattle.txn_base.specs.Outside.{PutsAll}
+use Rattle.txn_wire.specs.Replies.{text_of}
+use Rattle.txn_run.proofs.Telling.{told_line, told_front, told_fault, puts_err, not_whole}
+use Rattle.txn_run.proofs.lines.answer_line.Goals as goal
+
+pub returns-then-is_whole-clause-ok : goal.returns-then-is_whole-clause-ok
+returns-then-is_whole-clause-ok g c ok told tied ms piece stands =
+    let put = c.in-Ok.ensures.bytes in
+    told_line _ _ _ c.in-Some.reply put.0 _ _ _ (c.in-Some.ensures.some told tied ms piece stands) put.1 put.2
+
+pub returns-in-Ok-clause-disk : goal.returns-in-Ok-clause-disk
+returns-in-Ok-clause-disk g c stopped told tied ms piece stands =
+    let put = c.in-Ok.ensures.bytes in
+    told_fault _ _ _ c.in-Some.reply put.0 _ _ _ (c.in-Some.ensures.some told tied ms piece stands) put.1 (not_whole _ _ (sym c.is_whole.ensures ∙ c.if-is_whole.false) c.in-Some.ensures.whole) put.2
+
+pub returns-in-Some-clause-sink : goal.returns-in-Some-clause-sink
+returns-in-Some-clause-sink g c stopped told tied ms piece stands =
+    let put = c.put_reply.ensures.bytes in
+    let front = subst (λ r. PutsAll (g.O.Sink.held c.args.sink.now) (g.O.Sink.held c.put_reply.new.sink) r (text_of put.0)) c.in-Err.is put.2 in
+    told_front _ _ _ c.in-Some.reply put.0 _ _ _ front.0 (c.in-Some.ensures.some told tied ms piece stands) put.1 front.2

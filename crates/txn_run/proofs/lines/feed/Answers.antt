@@ -1,0 +1,56 @@
+use Rattle.std.proofs.Common.{◌<◌, length, ◌≡◌, ◌∙◌, ◌+◌, ◌++◌, ◌∷◌, [], ℕ, List, take, drop, get_or, refl, sym, ap, subst, arith, append_assoc, take-append-drop}
+use Rattle.std.proofs.lemmas.List.{take_more, take_all}
+use Rattle.txn_run.proofs.Feeding.{goes_then, goes_breaks, goes_stops, goes_along, breaks_along, stops_along}
+use Rattle.txn_run.proofs.Keeping.{keeps_then, counts_then, counts_none}
+use Rattle.txn_run.proofs.lines.feed.Goals as goal
+
+module _ (bs : List ℕ) (i : ℕ) where
+  more : i < length bs → take (i + 1) bs ≡ take i bs ++ get_or bs i 0 ∷ []
+  more h = take_more bs i 0 h
+
+  whole : i < length bs → take i bs ++ (get_or bs i 0 ∷ [] ++ drop (i + 1) bs) ≡ bs
+  whole h = sym (append_assoc (take i bs) (get_or bs i 0 ∷ []) (drop (i + 1) bs)) ∙ ap (λ xs. xs ++ drop (i + 1) bs) (sym (more h)) ∙ take-append-drop (i + 1) bs
+
+pub returns-in-Err-clause-sink : goal.returns-in-Err-clause-sink
+returns-in-Err-clause-sink g c is told tied ms =
+    let bs = c.args.bytes.now in
+    let i = c.loop-byte.byte-index in
+    breaks_along c.args.limits.now _ bs _ _ _ _ _ (whole bs i c.loop-byte-test.true)
+    (goes_breaks c.args.limits.now (take i bs) (get_or bs i 0 ∷ []) (drop (i + 1) bs) _ _ _ _ _ _ _ _ (c.loop-byte.invariant.so told tied ms) (c.in-Err.ensures.sink is told (c.loop-byte.invariant.tied tied) ms))
+
+pub returns-in-Err-clause-disk : goal.returns-in-Err-clause-disk
+returns-in-Err-clause-disk g c is told tied ms =
+    let bs = c.args.bytes.now in
+    let i = c.loop-byte.byte-index in
+    stops_along c.args.limits.now _ bs _ _ _ _ _ (whole bs i c.loop-byte-test.true)
+    (goes_stops c.args.limits.now (take i bs) (get_or bs i 0 ∷ []) (drop (i + 1) bs) _ _ _ _ _ _ _ _ (c.loop-byte.invariant.so told tied ms) (c.in-Err.ensures.disk is told (c.loop-byte.invariant.tied tied) ms))
+
+pub returns-in-Err-clause-images : goal.returns-in-Err-clause-images
+returns-in-Err-clause-images g c =
+    keeps_then g.D.Disk.moment g.D.Disk.image g.D.Disk.left_since (c.args.desk.now.name ∷ []) (c.loop-byte.desk.name ∷ []) c.args.disk.now c.loop-byte.disk c.take_byte.new.disk (ap (λ n. n ∷ []) c.loop-byte.invariant.name) c.loop-byte.invariant.images c.in-Err.ensures.images
+
+pub loop-byte-preserved : goal.loop-byte-preserved
+loop-byte-preserved g c =
+    let bs = c.args.bytes.now in
+    let i = c.loop-byte.byte-index in
+    let was = c.loop-byte.invariant in
+    let now = c.in-Ok.ensures in
+    record {
+      line = now.line;
+      kept = omega (arith, was.kept, now.kept);
+      writes_later = omega (arith, was.writes_later, now.writes_later);
+      beside = now.beside ∙ was.beside;
+      whole = now.whole;
+      part = now.part;
+      name = now.name ∙ was.name;
+      tied = λ t. now.tied (was.tied t);
+      backed = now.backed;
+      images = keeps_then g.D.Disk.moment g.D.Disk.image g.D.Disk.left_since (c.args.desk.now.name ∷ []) (c.loop-byte.desk.name ∷ []) c.args.disk.now c.loop-byte.disk c.take_byte.new.disk (ap (λ n. n ∷ []) was.name) was.images now.images;
+      counts = counts_none _ _ (g.D.Disk.part_faults c.args.disk.now) (g.D.Disk.part_faults c.take_byte.new.disk) _ (counts_then _ _ _ (g.D.Disk.part_faults c.args.disk.now) (g.D.Disk.part_faults c.loop-byte.disk) (g.D.Disk.part_faults c.take_byte.new.disk) _ _ was.counts now.cause);
+      so = λ told tied ms. goes_along c.args.limits.now _ (take (i + 1) bs) _ _ _ _ _ _ (sym (more bs i c.loop-byte-test.true)) (goes_then c.args.limits.now (take i bs) (get_or bs i 0 ∷ []) _ _ _ _ _ _ _ _ _ (was.so told tied ms) (now.ok refl told (was.tied tied) ms));
+    }
+
+pub returns-clause-ok : goal.returns-clause-ok
+returns-clause-ok g c ok told tied ms =
+    let all : take c.loop-byte.byte-index c.args.bytes.now ≡ c.args.bytes.now = take_all _ _ c.loop-byte-test.false in
+    goes_along c.args.limits.now _ c.args.bytes.now _ _ _ _ _ _ all (c.loop-byte.invariant.so told tied ms)

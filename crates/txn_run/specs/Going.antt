@@ -1,0 +1,38 @@
+-- Where a run stands after some of the input.
+use Rattle.std.specs.Prelude.{◌≡◌, ℕ, ◌<◌, ◌≤◌, List, [], ◌++◌, length, Bool, true, false, Option}
+use Rattle.std.specs.Io.KnownBytes.{Consumes}
+use Rattle.txn_base.specs.declared.limits.Limits.{Limits}
+use Rattle.txn_model.specs.Cut.{whole_lines, last_piece}
+use Rattle.txn_model.specs.Replies.{Standing}
+use Rattle.txn_run.specs.Told.{Told, Broken, Stopped}
+use Rattle.txn_run.specs.declared.pending.Pending.{Pending}
+
+-- The piece of a line that has come: what is kept of it is all of it, unless it is too long.
+pub record Stands (limit : ℕ) (p : Pending) (piece : List ℕ) : Type 0 where
+  pub kept : p.long ≡ false → p.line.bytes ≡ piece
+  pub short : p.long ≡ false → length piece ≤ limit
+  pub long : p.long ≡ true → limit < length piece
+
+-- From s and old, these bytes have come, and each line that has ended was answered.
+pub record Going (limits : Limits) (s : Standing) (old : Option (List ℕ)) (fed : List ℕ) (p : Pending) (s' : Standing) (new : Option (List ℕ)) : Type 0 where
+  pub piece : Stands limits.line p (last_piece fed)
+  pub told : Told limits s (whole_lines fed) s' old new
+
+-- Wherever the run stood, it stands so after the bytes.
+abbrev pub GoesOn : Limits → List ℕ → Pending → Standing → Option (List ℕ) → Pending → Standing → Option (List ℕ) → Type 0
+GoesOn limits bytes p s h p' s' h' = (first : Standing) (old : Option (List ℕ)) (fed : List ℕ) → Going limits first old fed p s h → Going limits first old (fed ++ bytes) p' s' h'
+
+-- Wherever the run stood, a line that ends within the bytes was told in part.
+abbrev pub BreaksOff : Limits → List ℕ → Pending → Standing → Option (List ℕ) → Standing → Option (List ℕ) → Type 0
+BreaksOff limits bytes p s h s' h' = (first : Standing) (old : Option (List ℕ)) (fed : List ℕ) → Going limits first old fed p s h → Broken limits first old (whole_lines (fed ++ bytes)) s' h'
+
+-- Wherever the run stood, a line that ends within the bytes was told a fault.
+abbrev pub StopsIn : Limits → List ℕ → Pending → Standing → Option (List ℕ) → Standing → Option (List ℕ) → Type 0
+StopsIn limits bytes p s h s' h' = (first : Standing) (old : Option (List ℕ)) (fed : List ℕ) → Going limits first old fed p s h → Stopped limits first old (whole_lines (fed ++ bytes)) s' h'
+
+-- A run that took so many bytes so far.
+pub record Reading (limits : Limits) (s : Standing) (old left : Option (List ℕ)) (taken : ℕ) (p : Pending) (s' : Standing) (new left' : Option (List ℕ)) : Type 0 where
+  pub fed : List ℕ
+  pub count : length fed ≡ taken
+  pub came : Consumes left left' fed
+  pub going : Going limits s old fed p s' new

@@ -1,0 +1,28 @@
+-- What a line is for this program.
+use Rattle.std.specs.Prelude.{ℕ, nat_lt, length, Bool, true, false, if◌then◌else◌, List, map, Option, Some, None}
+use Rattle.txn_base.specs.declared.limits.Limits.{Limits}
+use Rattle.txn_base.specs.declared.request.Request.{Request}
+use Rattle.txn_base.specs.declared.request.Request.TheVariants as request
+use Rattle.txn_model.specs.Replies.{Kind, kind_of}
+use Rattle.txn_wire.specs.Lines.{request_of}
+
+-- The forms that are answered so far: a plain publish of at least one text, and a read of at least one message. Every other
+-- one is a bad line.
+abbrev pub is_answered : Request → Bool
+is_answered (request.Publish topic None bodies) = nat_lt 0 (length bodies)
+is_answered (request.Read topic first max) = nat_lt 0 max
+is_answered _ = false
+
+abbrev pub if_answered : Option Request → Option Request
+if_answered None = None
+if_answered (Some r) = if is_answered r then Some r else None
+
+-- The request of a line, where it is of a form that is answered.
+abbrev pub asked_of : List ℕ → Option Request
+asked_of line = if_answered (request_of line)
+
+abbrev pub line_kind : Limits → List ℕ → Kind
+line_kind limits line = kind_of asked_of limits line
+
+abbrev pub line_kinds : Limits → List (List ℕ) → List Kind
+line_kinds limits lines = map (line_kind limits) lines

@@ -1,0 +1,9 @@
+pub mod Above
+pub mod Desk
+pub mod Going
+pub mod Kinds
+pub mod OneTopic
+pub mod Run
+pub mod Status
+pub mod Told
+pub mod Words

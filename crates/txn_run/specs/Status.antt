@@ -1,0 +1,17 @@
+-- What is made of the words.
+use Rattle.std.specs.Prelude.{◌≡◌, ℕ, List, Result, Ok, Err}
+use Rattle.txn_base.specs.declared.usage.Usage.{Usage}
+use Rattle.txn_run.specs.declared.status.RunStatus.{RunStatus}
+use Rattle.txn_run.specs.declared.status.RunStatus.TheVariants as status
+
+-- What was read of the words is what they are, unless memory ran out.
+abbrev pub ReadsWords : Result (List ℕ) RunStatus → Result (List ℕ) Usage → Type 0
+ReadsWords (Ok name) command = command ≡ Ok name
+ReadsWords (Err status.NoMemory) command = Unit {0}
+ReadsWords (Err (status.Usage u)) command = command ≡ Err u
+ReadsWords (Err status.Ok) command = ⊥
+ReadsWords (Err (status.Damaged file entry)) command = ⊥
+ReadsWords (Err status.ReadFault) command = ⊥
+ReadsWords (Err status.WriteFault) command = ⊥
+ReadsWords (Err status.DiskFault) command = ⊥
+ReadsWords (Err status.TooMuch) command = ⊥

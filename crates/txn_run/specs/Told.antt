@@ -1,0 +1,68 @@
+-- What was put into the sink for lines that were answered.
+use Rattle.std.specs.Prelude.{◌≡◌, ◌⊎◌, ℕ, ◌+◌, ◌-◌, ◌^◌, ◌≤◌, min, List, [], ◌∷◌, ◌++◌, length, take, flat_map, Bool, true, false, Option}
+use Rattle.std.specs.Io.KnownBytes.{Appends}
+use Rattle.txn_base.specs.declared.limits.Limits.{Limits}
+use Rattle.txn_base.specs.declared.reply.Reply.{Reply}
+use Rattle.txn_base.specs.declared.reply.Reply.TheVariants as reply
+use Rattle.txn_base.specs.declared.reply.Refusal.TheVariants as no
+use Rattle.txn_model.specs.Replies.{Standing, Kind, Replied, Replies, is_fault, count_faults}
+use Rattle.txn_wire.specs.Replies.{text_of}
+use Rattle.txn_wire.specs.Short.{IsShort, is_long}
+use Rattle.txn_run.specs.Kinds.{line_kinds}
+
+-- The texts of replies, one behind the other.
+abbrev pub texts : List Reply → List ℕ
+texts told = flat_map text_of told
+
+-- A line of this kind was told so, and the texts of that were put; or a front of them.
+abbrev pub ToldLine : Limits → Standing → Kind → Standing → Option (List ℕ) → Option (List ℕ) → Type 0
+ToldLine limits s kind s' old new = (told : List Reply) × Replied limits s kind told s' × Appends old new (texts told)
+
+abbrev pub ToldFront : Limits → Standing → Kind → Standing → Option (List ℕ) → Option (List ℕ) → Type 0
+ToldFront limits s kind s' old new = (told : List Reply) × (count : ℕ) × Replied limits s kind told s' × Appends old new (take count (texts told))
+
+-- A line of this kind was told a fault.
+abbrev pub ToldFault : Limits → Standing → Kind → Standing → Option (List ℕ) → Option (List ℕ) → Type 0
+ToldFault limits s kind s' old new = (one : Reply) × Replied limits s kind (one ∷ []) s' × (is_fault one ≡ true) × Appends old new (texts (one ∷ []))
+
+-- From s, these lines were answered and leave s', and the texts of the replies were put.
+pub record Told (limits : Limits) (s : Standing) (lines : List (List ℕ)) (s' : Standing) (old new : Option (List ℕ)) : Type 0 where
+  pub told : List Reply
+  pub replies : Replies limits s (line_kinds limits lines) told s'
+  pub put : Appends old new (texts told)
+
+-- The same, and the last reply is a fault.
+pub record ToldToFault (limits : Limits) (s : Standing) (lines : List (List ℕ)) (s' : Standing) (old new : Option (List ℕ)) : Type 0 where
+  pub told : List Reply
+  pub last : Reply
+  pub replies : Replies limits s (line_kinds limits lines) (told ++ last ∷ []) s'
+  pub fault : is_fault last ≡ true
+  pub put : Appends old new (texts (told ++ last ∷ []))
+
+-- The same, but only a front of the texts was put.
+pub record CutOff (limits : Limits) (s : Standing) (lines : List (List ℕ)) (s' : Standing) (old new : Option (List ℕ)) : Type 0 where
+  pub told : List Reply
+  pub count : ℕ
+  pub replies : Replies limits s (line_kinds limits lines) told s'
+  pub put : Appends old new (take count (texts told))
+
+-- The first of these lines were answered, and a front of the texts was put.
+abbrev pub Broken : Limits → Standing → Option (List ℕ) → List (List ℕ) → Standing → Option (List ℕ) → Type 0
+Broken limits s old all s' new = (lines more : List (List ℕ)) × (all ≡ lines ++ more) × CutOff limits s lines s' old new
+
+-- The first of these lines were answered, the last of them by a fault.
+abbrev pub Stopped : Limits → Standing → Option (List ℕ) → List (List ℕ) → Standing → Option (List ℕ) → Type 0
+Stopped limits s old all s' new = (lines more : List (List ℕ)) × (all ≡ lines ++ more) × ToldToFault limits s lines s' old new
+
+-- Told in the place of a reply: it, or want of memory for its text.
+abbrev pub StandsFor : Reply → Reply → Type 0
+StandsFor r told = (told ≡ r) ⊎ ((told ≡ reply.No no.NoMemory) × (is_long r ≡ true))
+
+-- A reply has a long text, or one within the room.
+abbrev pub IsTellable : Reply → Type 0
+IsTellable r = is_long r ≡ false → IsShort r
+
+-- A line of this kind may be told this reply, and where its text is long, want of memory instead.
+pub record MayTell (limits : Limits) (s : Standing) (kind : Kind) (r : Reply) (s' : Standing) : Type 0 where
+  pub told : Replied limits s kind (r ∷ []) s'
+  pub instead : is_long r ≡ true → Replied limits s kind (reply.No no.NoMemory ∷ []) s'

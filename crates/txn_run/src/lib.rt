@@ -1,0 +1,19 @@
+//! Lines in, replies out, over the files of a disk.
+#![tactic(auto)]
+
+mod desk;
+mod lines;
+mod opening;
+mod pending;
+mod program;
+mod put;
+mod status;
+mod words;
+
+pub use desk::OneTopic;
+pub use lines::Stop;
+pub use pending::Pending;
+pub use program::run;
+pub use put::{put_reply, with_room};
+pub use status::RunStatus;
+pub use words::topic_of;

@@ -1,0 +1,23 @@
+//! How a run ended.
+use txn_base::{FileId, Usage};
+
+/// How a run ended. The program's status is the number beside it.
+#[derive(Debug, Drop)]
+pub enum RunStatus {
+    /// 0: the source was read to its end.
+    Ok,
+    /// 1: the words are no command line.
+    Usage(Usage),
+    /// 2: opening met a frame or a record outside its grammar, or a list that isn't lawful by itself.
+    Damaged { file: FileId, entry: u64 },
+    /// 3: the source failed.
+    ReadFault,
+    /// 4: the sink failed.
+    WriteFault,
+    /// 5: the disk failed while opening, or a publish failed and was answered so.
+    DiskFault,
+    /// 6: memory ran out while the words were read or while opening.
+    NoMemory,
+    /// 7: as many bytes as the limits allow were taken.
+    TooMuch,
+}

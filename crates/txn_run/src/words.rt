@@ -1,0 +1,90 @@
+//! The words of a command line, read by hand.
+ghost use Rattle.std.specs.Prelude.{◌≡◌, true, IfOk};
+ghost use Rattle.std.specs.List.{list_all};
+ghost use Rattle.txn_base.specs.Names.{is_name_byte, begins_with_dash, is_topic_name};
+ghost use Rattle.txn_run.specs.Words.{is_bad, any_bad, command_of};
+ghost use Rattle.txn_run.specs.Status.{ReadsWords};
+
+use crate::status::RunStatus;
+use std::alloc::Global;
+use txn_base::{Text, Usage};
+
+/// The topic that the words name, or the status that they come to.
+#[tactic(auto, unfolding(crate::specs::Words::command_of))]
+pub fn topic_of(alloc: Global, words: &[Text]) -> Result<Text, RunStatus>
+    ensures words { ReadsWords result (command_of words.now) }
+    ensures name { IfOk result (λ name. is_topic_name name ≡ true) }
+{
+    if any_bad(words) {
+        return Err(RunStatus::Usage(Usage::Words));
+    }
+    match words {
+        [command, name] => {
+            if command.as_str() != "lines" {
+                return Err(RunStatus::Usage(Usage::Words));
+            }
+            let Ok(word) = name.clone() else {
+                return Err(RunStatus::NoMemory);
+            };
+            if is_topic_name(name.as_bytes()) {
+                Ok(word)
+            } else {
+                Err(RunStatus::Usage(Usage::BadName { word }))
+            }
+        }
+        _ => Err(RunStatus::Usage(Usage::Words)),
+    }
+}
+
+fn any_bad(words: &[Text]) -> bool
+    ensures { result ≡ any_bad words.now }
+{
+    for word in words {
+        if is_bad(word.as_bytes()) {
+            return true;
+        }
+    }
+    false
+}
+
+fn is_bad(word: &[u8]) -> bool
+    ensures { result ≡ is_bad word.now }
+{
+    match word {
+        [] => true,
+        [first, ..] => *first == b'-',
+    }
+}
+
+fn is_topic_name(name: &[u8]) -> bool
+    ensures { result ≡ is_topic_name name.now }
+{
+    if name.len() < 1 || name.len() > 100 {
+        return false;
+    }
+    if begins_with_dash(name) {
+        return false;
+    }
+    all_name_bytes(name)
+}
+
+fn all_name_bytes(name: &[u8]) -> bool
+    ensures { result ≡ list_all is_name_byte name.now }
+{
+    name.iter().all(|byte| is_name_byte(*byte))
+}
+
+fn begins_with_dash(name: &[u8]) -> bool
+    ensures { result ≡ begins_with_dash name.now }
+{
+    match name {
+        [] => false,
+        [first, ..] => *first == b'-',
+    }
+}
+
+fn is_name_byte(byte: u8) -> bool
+    ensures { result ≡ is_name_byte byte }
+{
+    matches!(byte, b'0'..=b'9' | b'A'..=b'Z' | b'a'..=b'z' | b'-' | b'.' | b'_')
+}
