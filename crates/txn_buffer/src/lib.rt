@@ -8,5 +8,8 @@ mod record;
 mod slice;
 mod topic;
 
+#[cfg(test)]
+mod tests;
+
 pub use error::TopicError;
 pub use topic::Topic;
