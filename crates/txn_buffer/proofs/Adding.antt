@@ -1,5 +1,5 @@
 -- Messages as records, one by one.
-use Rattle.std.proofs.Common.{◌≡◌, ℕ, suc, ◌+◌, ◌*◌, ◌<◌, ◌≤◌, true, List, [], ◌∷◌, ◌++◌, length, get_or, take, map, Some, None, refl, sym, ap, ◌∙◌, subst, arith, length-append}
+use Rattle.std.proofs.Common.{◌≡◌, ℕ, ◌+◌, ◌<◌, ◌≤◌, true, List, [], ◌∷◌, ◌++◌, length, get_or, take, map, Some, None, refl, sym, ap, ◌∙◌, subst, arith, length-append}
 use Rattle.std.specs.Prelude.{Option, All, is_none}
 use Rattle.std.proofs.lemmas.List.{map-append, take_more, get_or-map, length-map, append-nil, append_assoc}
 use Rattle.std.proofs.lemmas.List.Elements.{All-append, All-cons, All-nil}
@@ -7,20 +7,19 @@ use Rattle.std.proofs.lemmas.List.Concat.{flat_map-append}
 use Rattle.byteorder.specs.Numbers.{length-bytes_high_first}
 use Rattle.byteorder.specs.Endian.{big_bytes}
 use Rattle.txn_base.specs.declared.txn.TxnId.{TxnId}
-use Rattle.txn_base.specs.declared.core_entry.CoreEntry.TheVariants as core
 use Rattle.txn_base.specs.declared.entry.TopicEntry.{TopicEntry}
 use Rattle.txn_base.specs.declared.entry.TopicEntry.TheVariants as topic
 use Rattle.txn_base.specs.declared.limits.Limits.{Limits}
 use Rattle.txn_base.specs.Bytes.{contents_of}
 use Rattle.txn_base.specs.Decoded.{topic_entry_of}
-use Rattle.txn_base.specs.Frames.{Record, Batch, IsRecord, record_bytes, body_of}
+use Rattle.txn_base.specs.Frames.{Record, record_bytes, body_of}
 use Rattle.txn_base.specs.Limits.{InRange}
 use Rattle.txn_base.specs.Records.{topic_record}
 use Rattle.txn_base.specs.Room.{Roomy}
 use Rattle.txn_model.specs.Entries.{message_entry}
 use Rattle.txn_model.specs.Skeletons.{topic_skeleton, topic_skeletons}
 use Rattle.txn_model.specs.Topic.{marker_of, part_allows}
-use Rattle.txn_buffer.specs.Adding.{IsBodyWithin, AreBodies, IsPublished, ArePublished, messages_of, message_kind, IsMessageOf, IsUnmarked, opens_for}
+use Rattle.txn_buffer.specs.Adding.{AreBodies, ArePublished, messages_of, message_kind, IsMessageOf, IsUnmarked, opens_for}
 use Rattle.txn_buffer.specs.Front.{opens_of, ends_of}
 use Rattle.txn_buffer.specs.Record.{IsInGrammar}
 use Rattle.txn_buffer.specs.View.{batch_of}
@@ -88,6 +87,7 @@ are_messages txn rs bodies same grammar = λ k d h. record {
   where
     lengths : length rs ≡ length bodies
     lengths = sym (length-map rs topic_entry_of) ∙ ap length same ∙ length-map bodies (message_entry txn)
+
     kinds : (t : Option TxnId) (body : List ℕ) → message_kind t ≡ topic_skeleton (message_entry t body)
     kinds None body = refl
     kinds (Some x) body = refl

@@ -1,11 +1,10 @@
 -- Calls that only read a disk, in a row.
-use Rattle.std.proofs.Common.{◌≡◌, ⊎_elim, ℕ, ◌+◌, ◌-◌, ◌^◌, ◌≤◌, min, List, [], ◌∷◌, ◌++◌, refl, sym, ◌∙◌, subst, arith}
+use Rattle.std.proofs.Common.{⊎_elim, ℕ, List, [], ◌∷◌, ◌++◌, refl, sym, ◌∙◌, subst, arith}
 use Rattle.std.proofs.lemmas.List.{append-nil}
 use Rattle.txn_base.specs.declared.file_id.FileId.{FileId}
 use Rattle.txn_base.specs.Content.{LedgerContent, Standing, settled, in_flight, looked_at, KeptOrNot, Backed}
 use Rattle.txn_base.specs.Disk.{Files, Since, Same, CountsFaults}
 use Rattle.txn_base.specs.Frames.{Batch}
-use Rattle.txn_base.specs.Outside.{Rose}
 use Rattle.txn_base.proofs.Moments.{started, goes_on}
 use Rattle.txn_buffer.specs.Reads.{OnlyReads}
 
@@ -16,6 +15,7 @@ begins_with stands begins law image content c backed at = pick content.standing 
   where
     alone : stands content.key c content.batches → begins content.key c content.batches
     alone h = law content.key c content.batches [] (subst (stands content.key c) (sym (append-nil content.batches)) h)
+
     pick : (standing : Standing) → KeptOrNot (stands content.key c) content.batches standing → begins content.key c content.batches
     pick settled h = alone h
     pick looked_at h = alone h

@@ -1,12 +1,11 @@
 -- How a slice of messages grows.
-use Rattle.std.proofs.Common.{◌≡◌, ℕ, suc, ◌+◌, ◌-◌, ◌<◌, ◌≤◌, Bool, true, false, if◌then◌else◌, List, [], ◌∷◌, ◌++◌, length, take, Some, None, refl, sym, ap, ◌∙◌, subst, arith}
+use Rattle.std.proofs.Common.{◌≡◌, ℕ, suc, ◌+◌, ◌-◌, ◌≤◌, true, false, if◌then◌else◌, List, [], ◌∷◌, ◌++◌, length, take, Some, None, refl, sym, ap, ◌∙◌, subst, arith}
 use Rattle.std.proofs.lemmas.Bool.{le-leb, lt-leb, ltb-true, ltb-false}
 use Rattle.std.proofs.lemmas.List.{append-nil}
-use Rattle.std.specs.Prelude.{Option, nat_le, nat_lt, option_to_list}
+use Rattle.std.specs.Prelude.{nat_lt}
 use Rattle.txn_base.specs.declared.messages.Message.{Message}
-use Rattle.txn_model.specs.Topic.{fitting, first_and_fitting}
+use Rattle.txn_model.specs.Topic.{fitting}
 use Rattle.txn_buffer.specs.Reading.{rest_of, IsSpentWith, GoesOn, IsCut}
-use Rattle.txn_buffer.proofs.Tables.{no_true}
 
 -- one that doesn't fit
 none_left : (bytes spent n : ℕ) (ms : List Message) (m : Message) (more : List Message) → IsSpentWith ms bytes spent (length m.body) None → rest_of bytes spent (suc n) ms (m ∷ more) ≡ []

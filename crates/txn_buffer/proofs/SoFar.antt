@@ -1,5 +1,5 @@
 -- A read that is under way: what was given, and what is still to come.
-use Rattle.std.proofs.Common.{◌≡◌, ◌⊎◌, inl, inr, false, ℕ, suc, ◌+◌, ◌-◌, ◌<◌, ◌≤◌, min, max, Bool, true, List, [], ◌∷◌, ◌++◌, length, get_or, take, drop, Some, None, refl, sym, ap, ◌∙◌, subst, arith, add-one, append_assoc}
+use Rattle.std.proofs.Common.{◌≡◌, ◌⊎◌, inl, inr, false, ℕ, suc, ◌+◌, ◌<◌, ◌≤◌, min, max, true, List, [], ◌∷◌, ◌++◌, get_or, drop, sym, ap, ◌∙◌, subst, arith, add-one, append_assoc}
 use Rattle.std.specs.Prelude.{Option, All, option_to_list}
 use Rattle.std.proofs.Math.Dec.{leb}
 use Rattle.std.proofs.lemmas.Bool.Decides.{leb_tells}
@@ -10,7 +10,7 @@ use Rattle.txn_base.specs.declared.entry.TopicEntry.{TopicEntry}
 use Rattle.txn_base.specs.declared.limits.Limits.{Limits}
 use Rattle.txn_model.specs.Skeletons.{topic_skeletons}
 use Rattle.txn_model.specs.Topic.{shows, limit_of, read_slice, visible_from, fitting, first_and_fitting}
-use Rattle.txn_buffer.specs.Reading.{rest_of, GoesOn, IsCut, visible_later, ReadsUpTo}
+use Rattle.txn_buffer.specs.Reading.{rest_of, GoesOn, IsCut, visible_later}
 use Rattle.txn_buffer.proofs.Visible.{all_later, begins, ends, nothing_later, one_more, take_nothing, empty_slice, whole_slice}
 
 -- the visible messages of the entries from a place on

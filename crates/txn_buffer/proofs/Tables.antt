@@ -1,6 +1,6 @@
 -- The tables that are kept of the front of a topic's list, and how an entry changes them.
 use Rattle.std.proofs.Common.{◌≡◌, ◌≢◌, ◌⊎◌, inl, inr, ℕ, suc, ◌+◌, ◌==◌, ◌&&◌, Bool, true, false, if◌then◌else◌, cond, List, [], ◌∷◌, ◌++◌, length, map, Some, None, refl, sym, ap, ◌∙◌, subst, arith, eqb-true, length-append, zero-add}
-use Rattle.std.specs.Prelude.{Result, Ok, Err, IsOk, OnOk, Option, All, is_none, ◌<◌, slice_index_or}
+use Rattle.std.specs.Prelude.{Result, Ok, Err, IsOk, OnOk, Option, is_none, ◌<◌, slice_index_or}
 use Rattle.std.specs.Borrow.{Bor}
 use Rattle.std.specs.Option.{option_or, option_copied, is_some}
 use Rattle.std.proofs.Math.Dec.{eqb}
@@ -13,15 +13,13 @@ use Rattle.std.proofs.lemmas.List.{map-append, append-nil, length-map}
 use Rattle.std.proofs.lemmas.List.Elements.{All-append, All-cons, All-nil}
 use Rattle.txn_base.specs.declared.txn.TxnId.{TxnId}
 use Rattle.txn_base.specs.declared.txn.Decision.{Decision}
-use Rattle.txn_base.specs.declared.txn.Decision.TheVariants.{Commit, Abort}
 use Rattle.txn_base.specs.declared.core_entry.CoreEntry.{CoreEntry}
 use Rattle.txn_base.specs.declared.core_entry.CoreEntry.TheVariants as core
 use Rattle.txn_base.specs.declared.entry.TopicEntry.{TopicEntry}
-use Rattle.txn_base.specs.declared.entry.TopicEntry.TheVariants as topic
 use Rattle.txn_base.specs.Records.{IsTopicEntry}
-use Rattle.txn_model.specs.Words.{first_of, all_follow}
+use Rattle.txn_model.specs.Words.{all_follow}
 use Rattle.txn_model.specs.Skeletons.{same_txn, topic_skeleton, topic_skeletons}
-use Rattle.txn_model.specs.Topic.{marks, marker_of, part_allows, is_undecided, limit_from, limit_of, TopicLawful}
+use Rattle.txn_model.specs.Topic.{marks, marker_of, part_allows, limit_from, limit_of}
 use Rattle.txn_model.proofs.Prefixes.{first_of-append, all_follow-append}
 use Rattle.txn_buffer.specs.Front.{inside_from, waiting, pending_of, first_place, key_of, same_key, FrontView, IsTable}
 
@@ -113,6 +111,7 @@ waiting-twice f g stays (p ∷ ps) = pick (is_none (f p.1)) (stays p.1) (waiting
     gone : (c : Bool) → (c ≡ true → false ≡ true) → waiting g ps ≡ (if c then p ∷ ps else waiting g ps)
     gone true h = absurd (no_true (h refl))
     gone false h = refl
+
     pick : (b : Bool) → (is_none (g p.1) ≡ true → b ≡ true) → waiting g (waiting f ps) ≡ waiting g ps → waiting g (if b then p ∷ ps else waiting f ps) ≡ (if is_none (g p.1) then p ∷ ps else waiting g ps)
     pick true h e = refl
     pick false h e = e ∙ gone (is_none (g p.1)) h

@@ -1,5 +1,5 @@
 -- A topic's front is what its ledger holds.
-use Rattle.std.proofs.Common.{⊎_elim, ◌≡◌, ℕ, ◌+◌, ◌<◌, ◌≤◌, get_or, length-take, List, [], ◌∷◌, ◌++◌, length, take, map, refl, sym, ap, ◌∙◌, subst, arith, length-append}
+use Rattle.std.proofs.Common.{⊎_elim, ◌≡◌, ℕ, ◌+◌, ◌<◌, ◌≤◌, get_or, length-take, List, [], ◌∷◌, ◌++◌, length, take, map, sym, ap, ◌∙◌, subst, arith, length-append}
 use Rattle.std.specs.Prelude.{All}
 use Rattle.std.proofs.lemmas.List.{get_or-take, get_or-map, take_more, take-append-le, map-append, take_all, length-map, append-nil}
 use Rattle.std.proofs.lemmas.List.Elements.{All-append, All-cons, All-nil}
@@ -11,7 +11,7 @@ use Rattle.txn_buffer.specs.Mending.{IsBad, IsFirstBad, IsEntryAt, IsSettledFrom
 use Rattle.txn_base.specs.Content.{LedgerContent, Standing, settled, looked_at, in_flight, with_flight}
 use Rattle.txn_buffer.specs.Record.{IsInGrammar}
 use Rattle.txn_buffer.specs.View.{TopicView, IsFrontOf, total_of}
-use Rattle.txn_buffer.proofs.Tables.{records-append, entries-append}
+use Rattle.txn_buffer.proofs.Tables.{records-append}
 
 -- The topic, over this content.
 abbrev pub with_content : TopicView → LedgerContent → TopicView
@@ -104,6 +104,7 @@ tied_settled v k within from tied = ⊎_elim (λ same. stays k (ap (λ (l : Ledg
   where
     stays : (k : LedgerContent) → k.batches ≡ v.content.batches → IsFrontOf (with_content v k)
     stays k same = tied_longer v k [] within (same ∙ sym (append-nil v.content.batches)) tied
+
     kept_is : (standing : Standing) → k.batches ≡ with_flight v.content.batches standing → IsFrontOf (with_content v k)
     kept_is settled same = stays k same
     kept_is looked_at same = stays k same

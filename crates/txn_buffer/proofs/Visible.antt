@@ -1,6 +1,6 @@
 -- The visible messages from a place on.
-use Rattle.std.proofs.Common.{◌≡◌, ℕ, zero, suc, ◌+◌, ◌<◌, ◌≤◌, min, Bool, true, false, if◌then◌else◌, List, [], ◌∷◌, ◌++◌, length, get_or, take, drop, drop-cons, map, Some, None, refl, sym, ap, ◌∙◌, subst, arith}
-use Rattle.std.specs.Prelude.{Option, All, nat_le, filter, is_none, option_to_list}
+use Rattle.std.proofs.Common.{◌≡◌, ℕ, zero, suc, ◌+◌, ◌<◌, ◌≤◌, min, Bool, true, false, if◌then◌else◌, List, [], ◌∷◌, ◌++◌, length, get_or, take, drop, drop-cons, Some, None, refl, sym, ap, ◌∙◌, subst, arith}
+use Rattle.std.specs.Prelude.{Option, All, nat_le, filter, option_to_list}
 use Rattle.std.proofs.lemmas.Bool.{le-leb, lt-leb}
 use Rattle.std.proofs.lemmas.List.Elements.{All-append, All-cons, All-nil, All-head, All-tail}
 use Rattle.txn_base.specs.declared.txn.Decision.{Decision}
@@ -15,7 +15,6 @@ use Rattle.txn_model.specs.Topic.{marker_of, is_undecided, limit_from, limit_of,
 use Rattle.txn_model.specs.Entries.{message_at}
 use Rattle.txn_model.proofs.Showing.{visible_split}
 use Rattle.txn_buffer.specs.Reading.{rest_of, visible_later}
-use Rattle.txn_buffer.proofs.Tables.{no_true}
 
 -- what an entry shows stands at its place
 shows_at : (P : ℕ → Type 0) (all : List CoreEntry) (k : ℕ) (e : TopicEntry) → P k → All (λ m. P m.place) (option_to_list (shows all k e))

@@ -1,12 +1,10 @@
 -- The messages that a publish adds.
 use Rattle.std.specs.Prelude.{◌≡◌, ℕ, ◌≤◌, List, length, map, All, Option, Some, None, IsUtf8}
 use Rattle.txn_base.specs.declared.entry.TopicEntry.{TopicEntry}
-use Rattle.txn_base.specs.declared.entry.TopicEntry.TheVariants as topic
 use Rattle.txn_base.specs.declared.core_entry.CoreEntry.{CoreEntry}
 use Rattle.txn_base.specs.declared.core_entry.CoreEntry.TheVariants as core
 use Rattle.txn_base.specs.declared.limits.Limits.{Limits}
 use Rattle.txn_base.specs.declared.txn.TxnId.{TxnId}
-use Rattle.txn_base.specs.Bytes.{only_bytes}
 use Rattle.txn_base.specs.Decoded.{topic_entry_of}
 use Rattle.txn_base.specs.Frames.{Record}
 use Rattle.txn_model.specs.Entries.{message_entry}

@@ -1,5 +1,5 @@
 -- A slice of the visible messages, as it grows.
-use Rattle.std.specs.Prelude.{◌≡◌, ℕ, ◌+◌, ◌≤◌, Bool, true, false, nat_le, List, [], ◌∷◌, ◌++◌, length, take, filter, Option, Some, None, ◌<◌, option_to_list}
+use Rattle.std.specs.Prelude.{◌≡◌, ℕ, ◌+◌, ◌≤◌, Bool, true, false, nat_le, List, [], ◌∷◌, ◌++◌, take, filter, Option, Some, None, ◌<◌, option_to_list}
 use Rattle.txn_base.specs.declared.messages.Message.{Message}
 use Rattle.txn_base.specs.declared.entry.TopicEntry.{TopicEntry}
 use Rattle.txn_base.specs.declared.core_entry.CoreEntry.{CoreEntry}

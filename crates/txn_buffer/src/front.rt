@@ -201,10 +201,7 @@ fn kind_of(txn: Option<TxnId>) -> CoreEntry
 }
 
 /// Drops the messages at the front whose transaction is decided.
-fn drop_decided(
-    decisions: &IndexMap<(u64, u64), Decision>,
-    pending: &mut VecDeque<(u64, TxnId)>,
-)
+fn drop_decided(decisions: &IndexMap<(u64, u64), Decision>, pending: &mut VecDeque<(u64, TxnId)>)
     ensures pending { pending.new.items ≡ waiting (λ x. get same_key decisions.now (key_of x)) pending.old.items }
     ensures room { deque_capacity pending.old - deque_len pending.old ≤ deque_capacity pending.new - deque_len pending.new }
 {

@@ -6,10 +6,9 @@ mod error;
 mod front;
 mod record;
 mod slice;
-mod topic;
-
 #[cfg(test)]
 mod tests;
+mod topic;
 
 pub use error::TopicError;
 pub use topic::Topic;

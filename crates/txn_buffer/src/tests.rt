@@ -137,20 +137,23 @@ fn run<L: ledger::Ledger>(
 #[test]
 fn committed_messages_are_visible(rt: HostRuntime) {
     let wants = [(0, "b"), (1, "c")];
-    assert_eq!(rt; run::<Brand>(rt.alloc(), Blank::new(1), Decision::Commit, &wants), Some(true));
+    assert_eq!(rt;
+        run::<Brand>(rt.alloc(), Blank::new(1), Decision::Commit, &wants),
+        Some(true)
+    );
 }
 
 #[test]
 fn aborted_messages_are_not(rt: HostRuntime) {
     let wants = [(1, "c")];
-    assert_eq!(rt; run::<Brand>(rt.alloc(), Blank::new(1), Decision::Abort, &wants), Some(true));
+    assert_eq!(rt;
+        run::<Brand>(rt.alloc(), Blank::new(1), Decision::Abort, &wants),
+        Some(true)
+    );
 }
 
 /// Two threads look at a topic under its lock.
-fn look_twice<R: Threads + Wait + Sync>(
-    rt: &R,
-    topic: &Mutex<Topic<Ledger>>,
-) -> (u64, PartState) {
+fn look_twice<R: Threads + Wait + Sync>(rt: &R, topic: &Mutex<Topic<Ledger>>) -> (u64, PartState) {
     thread::join(
         rt,
         move || topic.lock(rt).limit(),

@@ -100,7 +100,14 @@ impl<R: RecordLog> Topic<R> {
         if !has_room(&self.limits, place, bodies.len()) {
             return Err(TopicError::Full { count: place });
         }
-        let batch = prepare(self.alloc, &mut self.log, &mut self.front, self.reserved, txn, bodies)?;
+        let batch = prepare(
+            self.alloc,
+            &mut self.log,
+            &mut self.front,
+            self.reserved,
+            txn,
+            bodies,
+        )?;
         if self.log.append(disk, &batch).is_err() {
             self.whole = false;
             self.front = Front::new(self.alloc);

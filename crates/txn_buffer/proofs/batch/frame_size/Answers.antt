@@ -1,4 +1,4 @@
-use Rattle.std.proofs.Common.{◌≡◌, ◌≤◌, ◌<◌, ◌+◌, ◌*◌, length, arith}
+use Rattle.std.proofs.Common.{arith}
 use Rattle.txn_base.specs.Frames.{IsRecord}
 use Rattle.txn_buffer.proofs.Adding.{at_each, body_more}
 use Rattle.txn_buffer.proofs.batch.frame_size.Goals as goal

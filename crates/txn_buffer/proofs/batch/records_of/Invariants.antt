@@ -12,5 +12,5 @@ invariant-loop-body l =
     record {
       batch : contents_of l.batch.items ≡ batch_of (messages_of l.txn (contents_of (take l.body-index l.bodies)));
       entries : map topic_entry_of (contents_of l.batch.items) ≡ messages_of l.txn (contents_of (take l.body-index l.bodies));
-      grammar : All IsInGrammar (contents_of l.batch.items)
+      grammar : All IsInGrammar (contents_of l.batch.items);
     }

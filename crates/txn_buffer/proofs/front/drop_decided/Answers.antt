@@ -1,5 +1,4 @@
-use Rattle.std.proofs.Common.{◌≡◌, ◌<◌, length, arith, refl, sym, ◌∙◌, ap, not, true}
-use Rattle.std.specs.Prelude.{is_none}
+use Rattle.std.proofs.Common.{◌<◌, length, arith, refl, sym, ◌∙◌}
 use Rattle.txn_buffer.proofs.Tables.{waiting_stays, none_copied}
 use Rattle.txn_buffer.proofs.front.drop_decided.Goals as goal
 

@@ -6,5 +6,5 @@ invariant-loop-one l =
     record {
       entries : l.self.entries ≡ l.fn.self.entries ++ take l.one-index l.added;
       opens : length l.added ≤ l.self.opens + l.one-index;
-      ends : length l.added ≤ l.self.ends + l.one-index
+      ends : length l.added ≤ l.self.ends + l.one-index;
     }

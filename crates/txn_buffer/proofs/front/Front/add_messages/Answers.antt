@@ -1,6 +1,5 @@
-use Rattle.std.proofs.Common.{length, ◌≡◌, ◌∙◌, ◌≤◌, arith}
+use Rattle.std.proofs.Common.{length, ◌∙◌, ◌≤◌, arith}
 use Rattle.txn_buffer.specs.Adding.{IsMessageOf}
-use Rattle.txn_buffer.specs.Front.{ends_of}
 use Rattle.txn_buffer.proofs.Adding.{at_each, AddsMessage, adds_message, added_more, unmarked_still}
 use Rattle.txn_buffer.proofs.front.Front.add_messages.Goals as goal
 use Rattle.txn_buffer.proofs.front.Front.add_messages.Goals.{After-of}

@@ -1,4 +1,3 @@
-use Rattle.std.proofs.Common.{◌≡◌}
 use Rattle.txn_buffer.proofs.Tables.{plain_grown}
 use Rattle.txn_buffer.proofs.front.Front.add_plain.Goals as goal
 

@@ -1,4 +1,4 @@
-use Rattle.std.proofs.Common.{◌<◌, ◌≡◌, ap, ◌∙◌, length, refl, arith}
+use Rattle.std.proofs.Common.{◌<◌, ap, ◌∙◌, length, refl, arith}
 use Rattle.txn_model.specs.Topic.{limit_of}
 use Rattle.txn_buffer.specs.Front.{FrontView}
 use Rattle.txn_buffer.proofs.Tables.{first_is, none_first, limit_of_queue, no_true}

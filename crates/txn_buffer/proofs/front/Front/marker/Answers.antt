@@ -1,4 +1,4 @@
-use Rattle.std.proofs.Common.{◌≡◌, ap, ◌∙◌}
+use Rattle.std.proofs.Common.{ap, ◌∙◌}
 use Rattle.txn_model.specs.Skeletons.{topic_skeletons}
 use Rattle.txn_model.specs.Topic.{marker_of}
 use Rattle.txn_buffer.specs.Front.{FrontView}

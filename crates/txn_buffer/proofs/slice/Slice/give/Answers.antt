@@ -1,4 +1,4 @@
-use Rattle.std.proofs.Common.{◌≡◌, ◌-◌, sym, subst}
+use Rattle.std.proofs.Common.{◌-◌, sym, subst}
 use Rattle.std.specs.Prelude.{Option}
 use Rattle.txn_base.specs.declared.messages.Message.{Message}
 use Rattle.txn_buffer.specs.Reading.{GoesOn, IsCut}

@@ -1,12 +1,10 @@
-use Rattle.std.proofs.Common.{◌≡◌, ◌≤◌, ◌+◌, length-append, List, [], ◌∷◌, ◌++◌, true, length, None, refl, ap, sym, ◌∙◌, subst, arith, rules}
-use Rattle.std.specs.Prelude.{All, map}
+use Rattle.std.proofs.Common.{◌≡◌, ◌+◌, length-append, [], ◌∷◌, ◌++◌, length, refl, ap, sym, ◌∙◌, arith, rules}
 use Rattle.std.proofs.lemmas.List.Elements.{All-cons, All-nil}
 use Rattle.txn_base.specs.declared.entry.TopicEntry.{TopicEntry}
 use Rattle.txn_base.specs.Bytes.{contents_of}
-use Rattle.txn_base.specs.Content.{LedgerContent, Standing, settled, landed}
+use Rattle.txn_base.specs.Content.{LedgerContent, landed}
 use Rattle.txn_base.specs.Decoded.{topic_entry_of}
 use Rattle.txn_base.specs.Frames.{records}
-use Rattle.txn_base.specs.Room.{Roomy}
 use Rattle.txn_model.specs.Skeletons.{topic_skeletons}
 use Rattle.txn_model.specs.Topic.{marker_of}
 use Rattle.txn_buffer.specs.Record.{IsInGrammar}

@@ -1,11 +1,8 @@
-use Rattle.std.proofs.Common.{◌≡◌, ◌≤◌, ◌<◌, ◌+◌, ◌++◌, List, Err, length, ap, sym, ◌∙◌, subst, arith}
-use Rattle.std.specs.Prelude.{Result, Vec}
+use Rattle.std.proofs.Common.{◌≡◌, ◌≤◌, ◌++◌, List, length, ap, ◌∙◌, subst, arith}
 use Rattle.std.proofs.lemmas.Result.{err_from_is_err_and}
 use Rattle.txn_base.specs.declared.entry.TopicEntry.{TopicEntry}
-use Rattle.txn_base.specs.declared.part.MendError.{MendError}
 use Rattle.txn_base.specs.declared.part.MendError.TheVariants.{Damaged}
-use Rattle.txn_base.specs.Content.{LedgerContent}
-use Rattle.txn_buffer.specs.Mending.{IsSettledFrom, with_front}
+use Rattle.txn_buffer.specs.Mending.{IsSettledFrom}
 use Rattle.txn_buffer.specs.View.{TopicView, IsFrontOf, total_of}
 use Rattle.txn_buffer.proofs.Staged.{same_error}
 use Rattle.txn_buffer.proofs.Tied.{tied_same, tied_settled, with_content}

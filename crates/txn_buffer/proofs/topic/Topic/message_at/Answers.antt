@@ -1,4 +1,4 @@
-use Rattle.std.proofs.Common.{◌≡◌, ◌<◌, ◌≤◌, length, get_or, ap, sym, ◌∙◌, subst}
+use Rattle.std.proofs.Common.{◌≡◌, ◌≤◌, length, get_or, ap, sym, ◌∙◌, subst}
 use Rattle.txn_base.specs.Content.{Backed}
 use Rattle.txn_base.specs.Frames.{records}
 use Rattle.txn_base.specs.Decoded.{topic_entry_of}

@@ -1,15 +1,13 @@
-use Rattle.std.proofs.Common.{◌≡◌, inl, inr, ℕ, List, [], ◌∷◌, ◌+◌, ◌++◌, true, length, get_or, take, ap, sym, ◌∙◌, subst, append_assoc, length-append, arith, rules, Err, Ok}
+use Rattle.std.proofs.Common.{◌≡◌, List, [], ◌∷◌, ◌+◌, ◌++◌, true, length, get_or, ap, sym, ◌∙◌, subst, append_assoc, length-append, arith, rules, Err}
 use Rattle.std.specs.Prelude.{Result}
 use Rattle.std.proofs.lemmas.Result.{err_from_is_err_and}
 use Rattle.txn_base.specs.declared.entry.TopicEntry.{TopicEntry}
 use Rattle.txn_base.specs.declared.part.MendError.{MendError}
-use Rattle.txn_base.specs.declared.part.MendError.TheVariants.{Damaged, Fault, NoMemory}
-use Rattle.txn_base.specs.Decoded.{topic_entries}
-use Rattle.txn_base.specs.Frames.{Record, records}
+use Rattle.txn_base.specs.declared.part.MendError.TheVariants.{Damaged}
+use Rattle.txn_base.specs.Frames.{records}
 use Rattle.txn_model.specs.Skeletons.{topic_skeleton, topic_skeletons}
 use Rattle.txn_model.specs.Topic.{part_allows, TopicLawful}
 use Rattle.txn_buffer.specs.Mending.{with_front, IsBad, IsEntryAt}
-use Rattle.txn_buffer.specs.Record.{IsInGrammar}
 use Rattle.txn_buffer.specs.View.{TopicView, IsFrontOf, total_of}
 use Rattle.txn_buffer.proofs.OnlyReading.{reads_on, reads_as}
 use Rattle.txn_buffer.proofs.Staged.{lawful_more, same_error}
