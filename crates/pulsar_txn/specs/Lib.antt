@@ -1,0 +1,4 @@
+pub mod Counts
+pub mod CommandLine
+pub mod Ending
+pub mod FileName

@@ -1,0 +1,102 @@
+//! A disk of real files in a folder. It tells nothing of what it holds.
+ghost use Rattle.std.specs.Prelude.{[]};
+ghost use Rattle.pulsar_txn.specs.Counts.{part_count};
+
+use crate::counts::Counts;
+use crate::files::{FolderFiles, MAX_SIZE};
+use std::alloc::Global;
+use std::fs::{File, Files};
+use txn_base::{Disk, Failed, FileId, Text};
+
+/// A folder of files, one for each file of the disk, with the counts of failed calls.
+#[derive(Drop)]
+pub struct FolderDisk<R: Files<File = File> + Drop> {
+    files: FolderFiles<R>,
+    counts: Counts,
+}
+
+impl<R: Files<File = File> + Drop> FolderDisk<R> {
+    /// Over the folder at this path, which the first call looks at.
+    pub fn new(alloc: Global, files: R, path: Text) -> Self {
+        FolderDisk {
+            files: FolderFiles::new(alloc, files, path),
+            counts: Counts::new(),
+        }
+    }
+}
+
+impl<R: Files<File = File> + Drop> Disk for FolderDisk<R> {
+    ghost tells = { ⊥ };
+
+    ghost seen = { λ disk file. [] };
+
+    ghost image = { λ disk c. ⊥ };
+
+    ghost moment = { λ disk. 0 };
+
+    ghost left_since = { λ disk t c. ⊥ };
+
+    ghost faults = { λ disk. disk.counts.all };
+
+    ghost part_faults = { λ disk. part_count disk.counts };
+
+    ghost seen_is_image = { λ disk told. told };
+
+    ghost image_is_told = { λ disk c at. at };
+
+    ghost independent = { λ disk c d file at other. at };
+
+    ghost counts_now = { λ disk t c le at. at };
+
+    ghost only_now = { λ disk c left. left };
+
+    fn size(&mut self, file: FileId) -> Result<u64, Failed> {
+        match self.files.size_of(file) {
+            Ok(size) if size <= MAX_SIZE => Ok(size),
+            _ => {
+                self.counts.rise(file.part);
+                Err(Failed)
+            }
+        }
+    }
+
+    fn read(&mut self, file: FileId, offset: u64, into: &mut [u8]) -> Result<(), Failed> {
+        match self.files.read_into(file, offset, into) {
+            Ok(()) => Ok(()),
+            Err(_) => {
+                self.counts.rise(file.part);
+                Err(Failed)
+            }
+        }
+    }
+
+    fn write_at(&mut self, file: FileId, offset: u64, bytes: &[u8]) -> Result<(), Failed> {
+        match self.files.write_into(file, offset, bytes) {
+            Ok(()) => Ok(()),
+            Err(_) => {
+                self.counts.rise(file.part);
+                Err(Failed)
+            }
+        }
+    }
+
+    fn resize(&mut self, file: FileId, size: u64) -> Result<(), Failed> {
+        match self.files.resize_to(file, size) {
+            Ok(()) if size <= MAX_SIZE => Ok(()),
+            _ => {
+                self.counts.rise(file.part);
+                Err(Failed)
+            }
+        }
+    }
+
+    fn sync(&mut self, file: FileId) -> Result<(), Failed> {
+        match self.files.bring_to_disk(file) {
+            Ok(()) => Ok(()),
+            Err(_) => {
+                self.counts.rise(file.part);
+                Err(Failed)
+            }
+        }
+    }
+}
