@@ -14,7 +14,7 @@ import time
 
 HERE = os.path.dirname(os.path.abspath(__file__))
 PROGRAM = os.path.abspath(sys.argv[1]) if len(sys.argv) > 1 else f"{HERE}/../crates/pulsar_txn/out/pulsar_txn"
-ROUNDS = int(sys.argv[2]) if len(sys.argv) > 2 else 300
+ROUNDS = int(sys.argv[2]) if len(sys.argv) > 2 else 200
 SEED = int(sys.argv[3]) if len(sys.argv) > 3 else random.randrange(1 << 32)
 
 

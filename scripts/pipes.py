@@ -88,9 +88,44 @@ def closed_output(folder):
     same("what it says", program.stderr.read(), b"write fault\n")
 
 
+def second_run_reads_the_first(folder):
+    same("the first run", run([folder], ["lines", "orders"], PUBLISH), (0, FIRST, b""))
+    again = b'{"at":1,"count":1,"ok":"publish"}\n'
+    shown = b'{"limit":2,"messages":[[0,"a"],[1,"a"]],"ok":"read"}\n'
+    same("the second run", run([folder], ["lines", "orders"], PUBLISH + READ), (0, again + shown, b""))
+    same("empty input", run([folder], ["lines", "orders"]), (0, b"", b""))
+    with open(f"{folder}/{LEDGER}", "rb") as ledger:
+        same("the ledger", ledger.read(), FRAME + FRAME)
+
+
+def input_that_fails(folder):
+    closed = ["sh", "-c", 'exec "$0" "$@" <&-', PROGRAM, folder, "lines", "orders"]
+    folder_as_input = ["sh", "-c", 'exec "$0" "$@" </', PROGRAM, folder, "lines", "orders"]
+    for command in (closed, folder_as_input):
+        done = subprocess.run(command, capture_output=True, timeout=20)
+        same(f"{command[2]}", (done.returncode, done.stdout, done.stderr), (3, b"", b"read fault\n"))
+
+
+def full_output(folder):
+    with open("/dev/full", "wb") as full:
+        program = start(folder, "lines", "orders", stdout=full)
+        program.stdin.write(PUBLISH)
+        program.stdin.close()
+        same("status with a full output", program.wait(20), 4)
+        same("what it says", program.stderr.read(), b"write fault\n")
+    same("the message is there", run([folder], ["lines", "orders"], READ), (0, SHOWN, b""))
+
+
+def file_for_a_folder(folder):
+    with open(folder, "wb") as file:
+        file.write(b"a file")
+    same("a file for a folder", run([folder], ["lines", "orders"], READ), (5, b"", b"disk fault\n"))
+
+
 def refused_words(folder):
-    same("no folder", run([], []), (1, b"", b"usage\n"))
-    for words in ([], ["lines"], ["lines", "-x"], ["lines", "a!b"], ["lines", "a", "b"], ["lines", ""], ["--help"], ["check"]):
+    for first in ([], [""], ["--help"], ["-x"], [b"\xff"]):
+        same(f"folder {first}", run(first, ["lines", "orders"] if first else []), (1, b"", b"usage\n"))
+    for words in ([], ["lines"], ["lines", "-x"], ["lines", "a!b"], ["lines", "a", "b"], ["lines", ""], ["lines", b"\xff"], ["--help"], ["check"]):
         same(f"words {words}", run([folder], words, PUBLISH), (1, b"", b"usage\n"))
     assert not os.path.exists(folder), "words that are no command line made the folder"
 
@@ -109,8 +144,22 @@ def damaged_ledgers(folder):
         same("damage stays as it was", os.path.getsize(f"{folder}/{LEDGER}"), 10 + len(bytes.fromhex(tail)))
 
 
+CASES = (
+    one_line_at_a_time,
+    second_run_reads_the_first,
+    two_programs_on_one_folder,
+    folder_that_another_program_made,
+    closed_output,
+    full_output,
+    input_that_fails,
+    file_for_a_folder,
+    refused_words,
+    damaged_ledgers,
+)
+
+
 def main():
-    for case in (one_line_at_a_time, two_programs_on_one_folder, folder_that_another_program_made, closed_output, refused_words, damaged_ledgers):
+    for case in CASES:
         with tempfile.TemporaryDirectory() as top:
             case(f"{top}/data")
         print(f"pipes: {case.__name__}: as it should be", flush=True)
