@@ -16,11 +16,15 @@ pub enum Standing {
     Lost,
 }
 
-/// Opens a folder and locks it. `Missing` where there is none.
+/// Opens a folder and locks it. `Missing` where there is none. The names in it are brought to the disk: a program that was
+/// stopped before it had done so may have made a file there.
 pub fn held<R: Files<File = File>>(files: &R, path: &str) -> io::Result<Standing> {
     match File::open(files, path) {
         Ok(folder) => match folder.try_lock() {
-            Ok(()) => Ok(Standing::Held(folder)),
+            Ok(()) => {
+                folder.sync_all()?;
+                Ok(Standing::Held(folder))
+            }
             Err(TryLockError::WouldBlock) => Err(ErrorKind::WouldBlock.into()),
             Err(TryLockError::Error(e)) => Err(e),
         },
