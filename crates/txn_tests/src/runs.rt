@@ -1,0 +1,85 @@
+//! A run over the outside in memory.
+ghost use Rattle.std.specs.Prelude.{};
+ghost use Rattle.txn_base.specs.Limits.{InRange};
+
+use std::alloc::{AllocError, Global};
+use txn_base::{Bytes, FileId, Limits, Text};
+use txn_memdisk::{FaultAt, ListClock, MemDisk, MemSink, MemSource};
+use txn_run::run;
+
+/// The ledger of the first topic.
+pub const TOPIC: FileId = FileId { part: 1, row: 2 };
+
+/// How a run ended, and what it put.
+#[derive(Debug, Drop)]
+pub struct Ran {
+    /// The status as it is shown for debugging.
+    pub status: String,
+    pub put: String,
+}
+
+impl Ran {
+    /// The status and what was put.
+    pub fn shown(&self) -> (&str, &str) {
+        (self.status.as_str(), self.put.as_str())
+    }
+}
+
+/// A disk on which these bytes are the topic's ledger.
+pub fn disk_with(alloc: Global, bytes: &[u8], faults: &[FaultAt]) -> Result<MemDisk, AllocError> {
+    let mut disk = MemDisk::new(alloc, faults)?;
+    disk.put_file(TOPIC, bytes)?;
+    Ok(disk)
+}
+
+/// A run with these words over a source and a sink.
+pub fn run_over(
+    alloc: Global,
+    words: &[&str],
+    limits: &Limits,
+    disk: &mut MemDisk,
+    source: &mut MemSource,
+    sink: &mut MemSink,
+) -> Result<Ran, AllocError>
+    requires { InRange limits.now }
+{
+    let mut texts = Vec::new(alloc);
+    for word in words {
+        texts.push(Text::from_str(alloc, word)?)?;
+    }
+    let mut clock = ListClock::new(&[]);
+    let status = run(alloc, &texts, limits, disk, source, sink, &mut clock);
+    let put = str::from_utf8(sink.bytes()).unwrap_or("bytes that are no text");
+    Ok(Ran {
+        status: format!(in alloc; "{status:?}")?,
+        put: String::from_str(alloc, put)?,
+    })
+}
+
+/// A run with these words and this input, which comes in pieces of 4,096 bytes.
+pub fn run_words(
+    alloc: Global,
+    words: &[&str],
+    limits: &Limits,
+    disk: &mut MemDisk,
+    input: &str,
+) -> Result<Ran, AllocError>
+    requires { InRange limits.now }
+{
+    let bytes = Bytes::from_slice(alloc, input.as_bytes())?;
+    let mut source = MemSource::new(alloc, bytes, 4096, &[])?;
+    let mut sink = MemSink::new(alloc, 4096, &[])?;
+    run_over(alloc, words, limits, disk, &mut source, &mut sink)
+}
+
+/// A run over the topic `orders`.
+pub fn run_lines(
+    alloc: Global,
+    limits: &Limits,
+    disk: &mut MemDisk,
+    input: &str,
+) -> Result<Ran, AllocError>
+    requires { InRange limits.now }
+{
+    run_words(alloc, &["lines", "orders"], limits, disk, input)
+}
