@@ -3,11 +3,13 @@
 #![tactic(auto)]
 
 mod bounds;
+mod records;
 mod runs;
 
 pub use bounds::{
     with_input, with_line, with_log, with_message, with_reads, with_step, with_window,
 };
+pub use records::record_at;
 pub use runs::{Ran, TOPIC, disk_with, run_lines, run_over, run_words};
 
 #[cfg(test)]

@@ -1,8 +1,10 @@
 //! Tests, by theme. What they expect was worked out by hand from the rules.
 mod bounds;
+mod coordinators;
 mod crashes;
 mod damage;
 mod faults;
+mod ledgers;
 mod lines;
 mod odd_json;
 mod plain;
