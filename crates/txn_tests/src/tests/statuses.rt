@@ -112,6 +112,10 @@ fn names_of_a_topic_are_words(rt: HostRuntime) -> Result<(), AllocError> {
 #[test]
 fn input_is_bounded(rt: HostRuntime) -> Result<(), AllocError> {
     let alloc = rt.alloc();
+    // A byte more would end a line.
+    let mut disk = MemDisk::new(alloc, &[])?;
+    let ran = run_lines(alloc, &with_input(1), &mut disk, "x\n")?;
+    assert_eq!(rt; ran.shown(), ("TooMuch", ""));
     let wants = [
         (1, "TooMuch", ""),
         (44, "TooMuch", ""),
