@@ -10,74 +10,73 @@ use txn_base::{Bytes, Steps};
 use txn_ledger::{GetError, Ledger, OpenError, RecordLog};
 use txn_memdisk::{FaultAt, MemDisk, Op};
 
-/// How many records a ledger has, and the first three of them.
-type Records = (u64, [Option<Result<Bytes, GetError>>; 3]);
+/// How many records a ledger has, and the one at a place.
+type Record = (u64, Option<Result<Bytes, GetError>>);
 
-fn records<L: ledger::Ledger>(
+fn opened_record<L: ledger::Ledger>(
     alloc: Global,
     blank: Blank,
     disk: &mut MemDisk,
-) -> Result<Records, OpenError>
+    place: u64,
+) -> Result<Record, OpenError>
     requires name { blank.name ≡ L.name }
     requires parts { blank.parts ≡ L.parts }
     requires one { L.parts ≡ 1 }
 {
     let log = Ledger::open_file(alloc, disk, TOPIC)?;
     let mut steps = Steps::<L>::new(blank);
-    let first = record_at(alloc, &log, disk, 0, &mut steps);
-    let second = record_at(alloc, &log, disk, 1, &mut steps);
-    let third = record_at(alloc, &log, disk, 2, &mut steps);
-    Ok((log.len(), [first, second, third]))
+    let found = record_at(alloc, &log, disk, place, &mut steps);
+    Ok((log.len(), found))
 }
 
 /// The same as it is shown for debugging.
-fn shown(alloc: Global, disk: &mut MemDisk) -> Result<String, AllocError> {
-    let records = records::<Brand>(alloc, Blank::new(1), disk);
-    format!(in alloc; "{records:?}")
+fn shown(alloc: Global, disk: &mut MemDisk, place: u64) -> Result<String, AllocError> {
+    let told = opened_record::<Brand>(alloc, Blank::new(1), disk, place);
+    format!(in alloc; "{told:?}")
 }
 
 // Two batches, of one record and of two. What they say is no matter to a ledger.
 #[test]
 fn records_are_those_of_the_frames(rt: HostRuntime) -> Result<(), AllocError> {
     let alloc = rt.alloc();
-    let mut disk = disk_with(alloc, &[], &[])?;
-    assert_eq!(rt;
-        shown(alloc, &mut disk)?.as_str(),
-        "Ok((0, [None, None, None]))"
-    );
     let bytes = [
         1, 0, 0, 0, 4, 0, 2, 8, 9, 1, 0, 0, 0, 9, 0, 3, 1, 2, 3, 0, 2, 4, 5, 0, 1,
     ];
     let mut disk = disk_with(alloc, &bytes, &[])?;
-    assert_eq!(rt;
-        shown(alloc, &mut disk)?.as_str(),
-        "Ok((3, [Some(Ok(Bytes { items: [8, 9] })), Some(Ok(Bytes { items: [1, 2, 3] })), Some(Ok(Bytes { items: [4, 5] }))]))"
-    );
+    for (place, want) in [
+        (0, "Ok((3, Some(Ok(Bytes { items: [8, 9] }))))"),
+        (1, "Ok((3, Some(Ok(Bytes { items: [1, 2, 3] }))))"),
+        (2, "Ok((3, Some(Ok(Bytes { items: [4, 5] }))))"),
+        (3, "Ok((3, None))"),
+        (u64::MAX, "Ok((3, None))"),
+    ] {
+        assert_eq!(rt; shown(alloc, &mut disk, place)?.as_str(), want);
+    }
     assert_eq!(rt; disk.file_bytes(TOPIC), &bytes[..23]);
+    let mut disk = disk_with(alloc, &[], &[])?;
+    assert_eq!(rt; shown(alloc, &mut disk, 0)?.as_str(), "Ok((0, None))");
     Ok(())
 }
 
-// The first read is that of the opening, and the second that of the first record.
+// The first read is that of the opening, and the second that of the record.
 #[test]
 fn failed_read_gives_no_record(rt: HostRuntime) -> Result<(), AllocError> {
     let alloc = rt.alloc();
-    let fault = |nth| FaultAt {
-        file: TOPIC,
-        op: Op::Read,
-        nth,
-    };
-    let mut disk = disk_with(alloc, A, &[fault(2)])?;
-    assert_eq!(rt;
-        shown(alloc, &mut disk)?.as_str(),
-        "Ok((1, [Some(Err(Fault)), None, None]))"
-    );
-    let mut disk = disk_with(alloc, A, &[fault(1)])?;
-    assert_eq!(rt; shown(alloc, &mut disk)?.as_str(), "Err(Fault)");
-    let mut disk = disk_with(alloc, &[1, 0, 0, 0, 0], &[])?;
-    assert_eq!(rt;
-        shown(alloc, &mut disk)?.as_str(),
-        "Err(Damaged { entry: 0 })"
-    );
+    let no_frame = [1, 0, 0, 0, 0];
+    let wants: [(&[u8], u64, &str); 3] = [
+        (A, 2, "Ok((1, Some(Err(Fault))))"),
+        (A, 1, "Err(Fault)"),
+        (&no_frame, 2, "Err(Damaged { entry: 0 })"),
+    ];
+    for (bytes, nth, want) in wants {
+        let fault = FaultAt {
+            file: TOPIC,
+            op: Op::Read,
+            nth,
+        };
+        let mut disk = disk_with(alloc, bytes, &[fault])?;
+        assert_eq!(rt; shown(alloc, &mut disk, 0)?.as_str(), want);
+    }
     Ok(())
 }
 
