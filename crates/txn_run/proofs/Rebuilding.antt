@@ -1,5 +1,5 @@
 -- How a topic is rebuilt while it is opened.
-use Rattle.std.proofs.Common.{◌≡◌, ℕ, ◌≤◌, ◌+◌, ◌-◌, ◌==◌, min, if◌then◌else◌, List, length, IsTrue, ap, ◌∙◌, subst, arith, ⊎_elim, inr, Result, Err, length-append}
+use Rattle.std.proofs.Common.{◌<◌, ◌≡◌, ℕ, ◌≤◌, ◌+◌, ◌-◌, ◌==◌, min, if◌then◌else◌, List, length, IsTrue, ap, ◌∙◌, subst, arith, ⊎_elim, inr, Result, Err, length-append}
 use Rattle.std.proofs.lemmas.Bool.Decides.{nat_tests}
 use Rattle.txn_base.specs.declared.file_id.FileId.{FileId}
 use Rattle.txn_base.specs.declared.limits.Limits.{Limits}
@@ -102,5 +102,9 @@ module _ {T : Type 0} (at file : FileId) (place entry : ℕ) (e : ◌≡◌ {A =
   pub file_is : file ≡ at
   file_is = cc
 
-  pub bad_here : (bytes : List ℕ) (batches : List Batch) → Stands bytes batches → IsFirstBad batches place → IsDamaged bytes entry
-  bad_here bytes batches stands bad = inr (batches, stands, subst (IsFirstBad batches) same_place bad)
+  pub bad_here : (bytes : List ℕ) (batches : List Batch) → Stands bytes batches → place < length (records batches) → IsFirstBad batches place → IsDamaged bytes entry
+  bad_here bytes batches stands within bad = inr (batches, stands, subst (λ (k : ℕ). k < length (records batches)) same_place within, subst (IsFirstBad batches) same_place bad)
+
+-- a place of a step is one of a record
+pub in_list : (front step total place : ℕ) → front ≤ total → place < front + min step (total - front) → place < total
+in_list front step total place within to = grind (arith, within, to)

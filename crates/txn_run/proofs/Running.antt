@@ -1,14 +1,14 @@
 -- From the opening to the last table.
-use Rattle.std.proofs.Common.{◌≡◌, ℕ, Result, Ok, Bool, true, false, not, List, [], ◌∷◌, Option, IsTrue, refl, sym, ap, ◌∙◌, subst}
+use Rattle.std.proofs.Common.{◌≡◌, ◌≤◌, ℕ, length, All, arith, Result, Ok, Bool, true, false, not, List, [], ◌∷◌, Option, IsTrue, refl, sym, ap, ◌∙◌, subst}
 use Rattle.txn_base.specs.Content.{Standing as HowItStands, KeptOrNot, LedgerContent, Backed}
 use Rattle.txn_base.specs.Decoded.{topic_entries}
 use Rattle.txn_base.specs.Disk.{Files, Since, Changes}
-use Rattle.txn_base.specs.Frames.{Batch, Stands}
+use Rattle.txn_base.specs.Frames.{Batch, records, Stands}
 use Rattle.txn_base.specs.Names.{is_topic_name}
 use Rattle.txn_base.specs.declared.file_id.FileId.{FileId}
 use Rattle.txn_base.specs.declared.limits.Limits.{Limits}
 use Rattle.txn_base.proofs.Moments.{weaker}
-use Rattle.txn_buffer.specs.View.{TopicView}
+use Rattle.txn_buffer.specs.View.{TopicView, IsFrontOf}
 use Rattle.txn_ledger.specs.Found.{KeepsList}
 use Rattle.txn_ledger.specs.Ledger.{StandsIn}
 use Rattle.txn_model.specs.declared.world.World.{World}
@@ -16,12 +16,15 @@ use Rattle.txn_model.specs.Opening.{first_state}
 use Rattle.txn_model.specs.Replies.{Standing}
 use Rattle.txn_model.specs.Sound.{ledger_file}
 use Rattle.txn_model.specs.Table.{TableState}
+use Rattle.txn_model.specs.Topic.{TopicLawful}
+use Rattle.txn_buffer.specs.Record.{IsInGrammar}
+use Rattle.std.proofs.lemmas.List.{take_all}
 use Rattle.txn_model.proofs.Grows.{extends_same}
 use Rattle.txn_run.specs.Above.{StandsAbove, KeepsAbove, IsSoundBefore}
 use Rattle.txn_run.specs.Desk.{standing, IsPartOne}
 use Rattle.txn_run.specs.OneTopic.{one_table, one_world, table_of, flight_of}
-use Rattle.txn_run.specs.Run.{Leaves, first_standing}
-use Rattle.txn_run.proofs.DeskAnswers.{table_is}
+use Rattle.txn_run.specs.Run.{Leaves, first_standing, IsUndamaged}
+use Rattle.txn_run.proofs.DeskAnswers.{table_is, front_is}
 use Rattle.txn_run.proofs.FirstState.{opened_keeps, first_table}
 use Rattle.txn_run.proofs.Keeping.{keeps_then}
 use Rattle.txn_run.proofs.Left.{left_kept}
@@ -67,3 +70,14 @@ same_name command a b p q = cc
 
 pub run_named : (seen : Files) (P : List ℕ → World → Type 0) (a b : List ℕ) → a ≡ b → ((sound : IsSoundBefore (a ∷ []) seen) → P a sound.world) → (sound : IsSoundBefore (b ∷ []) seen) → P b sound.world
 run_named seen P a b e h = subst (λ (n : List ℕ). (sound : IsSoundBefore (n ∷ []) seen) → P n sound.world) e h
+
+-- ---- a file that was opened
+
+pub undamaged_here : (limits : Limits) (v : TopicView) → IsTrue v.whole → IsPartOne limits v → IsFrontOf v → TopicLawful v.front → (e : Files) → StandsIn (ledger_file 1) e v.content.batches → IsUndamaged (e (ledger_file 1))
+undamaged_here limits v whole part tied lawful e here =
+    let long : length (records v.content.batches) ≤ length v.front = omega (arith, part.all whole) in (
+      v.content.batches,
+      here,
+      subst (All IsInGrammar) (take_all (length v.front) (records v.content.batches) long) tied.grammar,
+      subst TopicLawful (front_is limits [] v whole part tied) lawful,
+    )

@@ -1,5 +1,5 @@
 -- How a run ends.
-use Rattle.std.specs.Prelude.{◌≡◌, ◌⊎◌, ℕ, ◌<◌, ◌≤◌, List, [], ◌∷◌, length, Bool, Option}
+use Rattle.std.specs.Prelude.{◌≡◌, ◌⊎◌, ℕ, ◌<◌, ◌≤◌, List, [], ◌∷◌, length, All, Bool, Option}
 use Rattle.std.specs.Io.KnownBytes.{Consumes, Keeps, IsAtEnd}
 use Rattle.txn_base.specs.Disk.{Files}
 use Rattle.txn_base.specs.Frames.{IsDamagedAt}
@@ -14,7 +14,10 @@ use Rattle.txn_model.specs.Replies.{Standing}
 use Rattle.txn_model.specs.Sound.{ledger_file, StandsFor}
 use Rattle.txn_model.specs.Table.{TableState}
 use Rattle.txn_model.specs.World.{kept}
-use Rattle.txn_base.specs.Frames.{Batch}
+use Rattle.txn_base.specs.Decoded.{topic_entries}
+use Rattle.txn_base.specs.Frames.{Batch, records}
+use Rattle.txn_buffer.specs.Record.{IsInGrammar}
+use Rattle.txn_model.specs.Topic.{TopicLawful}
 use Rattle.txn_run.specs.Above.{IsSoundBefore}
 use Rattle.txn_run.specs.Told.{Told, Broken, Stopped}
 use Rattle.txn_run.specs.declared.status.RunStatus.{RunStatus}
@@ -100,7 +103,19 @@ abbrev pub RunOf : RunStatus → Limits → List ℕ → World → Option (List 
 RunOf ended limits name w moments image_before image before after parts_before parts_after left left' held held' =
     Early ended left left' held held' ⊎ Ran ended limits name w moments image_before image before after parts_before parts_after left left' held held'
 
--- The frame of this number is outside its grammar, or this record is the first that is outside its grammar or isn't allowed
--- behind those before it.
+-- The frame of this number is outside its grammar; or the file stands for a list, of which this record is the first that is
+-- outside its grammar or isn't allowed behind those before it.
 abbrev pub IsDamaged : List ℕ → ℕ → Type 0
-IsDamaged bytes entry = IsDamagedAt bytes entry ⊎ ((batches : List Batch) × StandsIn (ledger_file 1) (λ f. bytes) batches × IsFirstBad batches entry)
+IsDamaged bytes entry = IsDamagedAt bytes entry ⊎ ((batches : List Batch) × StandsIn (ledger_file 1) (λ f. bytes) batches × (entry < length (records batches)) × IsFirstBad batches entry)
+
+-- The bytes stand for a list of records in the grammar whose entries are lawful by themselves.
+abbrev pub IsUndamaged : List ℕ → Type 0
+IsUndamaged bytes = (batches : List Batch) × StandsIn (ledger_file 1) (λ f. bytes) batches × All IsInGrammar (records batches) × TopicLawful (topic_entries batches)
+
+-- The statuses of a run that took all its input, or whose source or sink failed, or that took too much.
+abbrev pub IsAnswered : RunStatus → Type 0
+IsAnswered status.Ok = Unit {0}
+IsAnswered status.ReadFault = Unit {0}
+IsAnswered status.WriteFault = Unit {0}
+IsAnswered status.TooMuch = Unit {0}
+IsAnswered _ = ⊥

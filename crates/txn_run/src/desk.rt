@@ -13,6 +13,7 @@ ghost use Rattle.txn_buffer.specs.View.{IsFrontOf};
 ghost use Rattle.txn_ledger.specs.Ledger.{StandsIn};
 ghost use Rattle.txn_model.specs.EarlyRows.{are_too_big};
 ghost use Rattle.txn_model.specs.Replies.{AnswersFrom, is_fault};
+ghost use Rattle.txn_model.specs.Topic.{TopicLawful};
 ghost use Rattle.txn_wire.specs.Short.{is_long};
 ghost use Rattle.txn_run.specs.Above.{KeepsAbove};
 ghost use Rattle.txn_run.specs.Desk.{standing, IsPartOne, IsAsked};
@@ -74,7 +75,8 @@ impl OneTopic {
 
     /// The topic is rebuilt, and nothing is in flight.
     pub fn is_whole(&self) -> bool
-        ensures { result ≡ self.now.topic.whole }
+        ensures value { result ≡ self.now.topic.whole }
+        ensures lawful { TopicLawful self.now.topic.front }
     {
         matches!(self.topic.state(), PartState::Whole)
     }

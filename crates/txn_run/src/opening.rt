@@ -9,6 +9,7 @@ ghost use Rattle.txn_buffer.specs.View.{IsFrontOf};
 ghost use Rattle.txn_ledger.specs.Found.{KeepsList};
 ghost use Rattle.txn_ledger.specs.Ledger.{StandsIn};
 ghost use Rattle.txn_model.specs.Sound.{ledger_file};
+ghost use Rattle.txn_model.specs.Topic.{TopicLawful};
 ghost use Rattle.txn_run.specs.Desk.{IsPartOne};
 ghost use Rattle.txn_run.specs.Going.{Stands};
 ghost use Rattle.txn_run.specs.Run.{IsEarly, IsDamaged};
@@ -64,6 +65,7 @@ pub fn open<L: ledger::Ledger, D: Disk>(
     ensures opened { IfOk result (λ desk. (desk.name ≡ name) × IsTrue desk.topic.whole × IsPartOne limits.now desk.topic) }
     ensures backed { IfOk result (λ desk. Backed StandsIn (D.image disk.new) desk.topic.content) }
     ensures told { D.tells → IfOk result (λ desk. IsFrontOf desk.topic × StandsIn (ledger_file 1) (D.seen disk.old) desk.topic.content.batches) }
+    ensures lawful { IfOk result (λ desk. TopicLawful desk.topic.front) }
     ensures early { IfErr result IsEarly }
     ensures damaged { (file : FileId) (entry : ℕ) → result ≡ Err (status.Damaged file entry) → (file ≡ ledger_file 1) × (D.tells → IsDamaged (D.seen disk.old (ledger_file 1)) entry) }
     ensures images { Since D.moment D.image D.left_since (Changes (ledger_file 1) KeepsList) disk.old disk.new }

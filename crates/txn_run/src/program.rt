@@ -17,7 +17,7 @@ ghost use Rattle.txn_model.specs.Sound.{ledger_file};
 ghost use Rattle.txn_run.specs.Above.{StandsAbove, KeepsAbove, IsSoundBefore};
 ghost use Rattle.txn_run.specs.Desk.{standing, IsPartOne};
 ghost use Rattle.txn_run.specs.Going.{Stands};
-ghost use Rattle.txn_run.specs.Run.{Ended, IsEarly, IsRan, IsOpened, IsQuiet, IsDamaged, RunOf};
+ghost use Rattle.txn_run.specs.Run.{Ended, IsEarly, IsRan, IsOpened, IsQuiet, IsAnswered, IsUndamaged, IsDamaged, RunOf};
 ghost use Rattle.txn_run.specs.Words.{command_of};
 ghost use Rattle.txn_run.specs.declared.status.RunStatus.TheVariants as status;
 
@@ -54,6 +54,7 @@ pub fn run<D: Disk, I: Source, O: Sink, K: Clock>(
     ensures always { (name : List ℕ) → command_of words.now ≡ Ok name → (floor : World) → ((c : Files) → D.image disk.old c → StandsAbove (name ∷ []) floor c) → (c : Files) → D.left_since disk.new (D.moment disk.old) c → StandsAbove (name ∷ []) floor c }
     ensures usage { (u : Usage) → command_of words.now ≡ Err u → ((result ≡ status.Usage u) ⊎ (result ≡ status.NoMemory)) × (disk.new ≡ disk.old) × (source.new ≡ source.old) × (sink.new ≡ sink.old) }
     ensures command { (u : Usage) → result ≡ status.Usage u → command_of words.now ≡ Err u }
+    ensures undamaged { IsAnswered result → D.tells → IsUndamaged (D.seen disk.old (ledger_file 1)) }
     ensures damaged { (file : FileId) (entry : ℕ) → result ≡ status.Damaged file entry → (file ≡ ledger_file 1) × (D.tells → IsDamaged (D.seen disk.old (ledger_file 1)) entry) }
     ensures quiet { IsQuiet result → (source.new ≡ source.old) × (sink.new ≡ sink.old) }
     ensures taken { (taken : List ℕ) × Consumes (I.left source.old) (I.left source.new) taken × (length taken ≤ limits.now.input) × (result ≡ status.TooMuch → length taken ≡ limits.now.input) }
@@ -90,6 +91,7 @@ fn with_count<L: ledger::Ledger, D: Disk, I: Source, O: Sink>(
     ensures images { Since D.moment D.image D.left_since (KeepsAbove (name ∷ [])) disk.old disk.new }
     ensures statuses { IsOpened result }
     ensures quiet { IsQuiet result → (source.new ≡ source.old) × (sink.new ≡ sink.old) }
+    ensures undamaged { IsAnswered result → D.tells → IsUndamaged (D.seen disk.old (ledger_file 1)) }
     ensures damaged { (file : FileId) (entry : ℕ) → result ≡ status.Damaged file entry → (file ≡ ledger_file 1) × (D.tells → IsDamaged (D.seen disk.old (ledger_file 1)) entry) }
     ensures taken { (taken : List ℕ) × Consumes (I.left source.old) (I.left source.new) taken × (length taken ≤ limits.now.input) × (result ≡ status.TooMuch → length taken ≡ limits.now.input) }
     ensures read { result ≡ status.ReadFault → Rose (I.faults source.old) (I.faults source.new) }
@@ -116,6 +118,7 @@ fn run_topic<L: ledger::Ledger, D: Disk, I: Source, O: Sink>(
     ensures images { Since D.moment D.image D.left_since (KeepsAbove (name ∷ [])) disk.old disk.new }
     ensures statuses { IsOpened result }
     ensures quiet { IsQuiet result → (source.new ≡ source.old) × (sink.new ≡ sink.old) }
+    ensures undamaged { IsAnswered result → D.tells → IsUndamaged (D.seen disk.old (ledger_file 1)) }
     ensures damaged { (file : FileId) (entry : ℕ) → result ≡ status.Damaged file entry → (file ≡ ledger_file 1) × (D.tells → IsDamaged (D.seen disk.old (ledger_file 1)) entry) }
     ensures taken { (taken : List ℕ) × Consumes (I.left source.old) (I.left source.new) taken × (length taken ≤ limits.now.input) × (result ≡ status.TooMuch → length taken ≡ limits.now.input) }
     ensures read { result ≡ status.ReadFault → Rose (I.faults source.old) (I.faults source.new) }

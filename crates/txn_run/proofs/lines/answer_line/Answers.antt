@@ -12,7 +12,7 @@ returns-then-is_whole-clause-ok g c ok told tied ms piece stands =
 pub returns-in-Ok-clause-disk : goal.returns-in-Ok-clause-disk
 returns-in-Ok-clause-disk g c stopped told tied ms piece stands =
     let put = c.in-Ok.ensures.bytes in
-    told_fault _ _ _ c.in-Some.reply put.0 _ _ _ (c.in-Some.ensures.some told tied ms piece stands) put.1 (not_whole _ _ (sym c.is_whole.ensures ∙ c.if-is_whole.false) c.in-Some.ensures.whole) put.2
+    told_fault _ _ _ c.in-Some.reply put.0 _ _ _ (c.in-Some.ensures.some told tied ms piece stands) put.1 (not_whole _ _ (sym c.is_whole.ensures.value ∙ c.if-is_whole.false) c.in-Some.ensures.whole) put.2
 
 pub returns-in-Some-clause-sink : goal.returns-in-Some-clause-sink
 returns-in-Some-clause-sink g c stopped told tied ms piece stands =

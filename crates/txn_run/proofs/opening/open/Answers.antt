@@ -1,10 +1,10 @@
-use Rattle.std.proofs.Common.{sym, ap, subst, Err}
+use Rattle.std.proofs.Common.{sym, ap, subst, Err, length, min, ◌<◌, ◌+◌, ◌-◌}
 use Rattle.txn_base.specs.Content.{LedgerContent}
-use Rattle.txn_base.specs.Frames.{Stands}
+use Rattle.txn_base.specs.Frames.{Stands, records}
 use Rattle.txn_buffer.specs.Mending.{IsFirstBad}
 use Rattle.txn_model.specs.Sound.{ledger_file}
 use Rattle.txn_run.proofs.Keeping.{counts_then, counts_none}
-use Rattle.txn_run.proofs.Rebuilding.{same_content, opening_step, opening_keeps, counts_at_one, counts_but, file_is, bad_here}
+use Rattle.txn_run.proofs.Rebuilding.{same_content, opening_step, opening_keeps, counts_at_one, counts_but, file_is, bad_here, in_list}
 use Rattle.txn_run.proofs.opening.open.Goals as goal
 
 pub loop-file-preserved : goal.loop-file-preserved
@@ -30,6 +30,8 @@ returns-in-Err-Damaged-mend_step-clause-damaged g c file entry e =
     let same = same_content c.args.limits.now c.loop-file.desk.topic c.mend_step.new.self was.part now.settled in (
       file_is (ledger_file 1) file c.in-Err-Damaged-mend_step.place entry e,
       λ told. bad_here (ledger_file 1) file c.in-Err-Damaged-mend_step.place entry e (g.D.Disk.seen c.args.disk.now (ledger_file 1)) c.loop-file.desk.topic.content.batches (was.told told).1
+          (in_list (length c.loop-file.desk.topic.front) c.loop-file.desk.topic.limits.step (length (records c.loop-file.desk.topic.content.batches)) c.in-Err-Damaged-mend_step.place was.part.within
+          (subst (λ (k : LedgerContent). c.in-Err-Damaged-mend_step.place < length c.loop-file.desk.topic.front + min c.loop-file.desk.topic.limits.step (length (records k.batches) - length c.loop-file.desk.topic.front)) same (now.damaged c.in-Err-Damaged-mend_step.place (ap Err c.in-Err-Damaged-mend_step.field-0-is)).to))
           (subst (λ (k : LedgerContent). IsFirstBad k.batches c.in-Err-Damaged-mend_step.place) same (now.first_bad c.in-Err-Damaged-mend_step.place (ap Err c.in-Err-Damaged-mend_step.field-0-is) told (was.told told).0)),
     )
 

@@ -2,7 +2,7 @@ use Rattle.std.proofs.Common.{◌≡◌, ◌∙◌, inl, inr, refl, sym, ap, Err
 use Rattle.txn_model.specs.Replies.{Standing}
 use Rattle.txn_run.specs.Desk.{standing}
 use Rattle.txn_run.specs.Run.{Ended, first_standing}
-use Rattle.txn_run.proofs.Running.{opening_above, running_above, image_above, first_is, leaves_here}
+use Rattle.txn_run.proofs.Running.{opening_above, running_above, image_above, first_is, leaves_here, undamaged_here}
 use Rattle.txn_run.proofs.program.run_topic.Goals as goal
 
 pub returns-in-Ok-open-clause-images : goal.returns-in-Ok-open-clause-images
@@ -37,3 +37,9 @@ returns-in-Ok-open-clause-answers g c told ms sound =
           let above = image_above g.D.Disk.moment g.D.Disk.image g.D.Disk.left_since c.args.name c.requires.name c.args.disk.now c.run_in.new.disk (running_above g.D.Disk.moment g.D.Disk.image g.D.Disk.left_since c.args.name c.requires.name c.args.disk.now c.open.new.disk c.run_in.new.disk c.in-Ok-open.desk.name opened.0 c.in-Ok-open.ensures.images c.run_in.ensures.images) all image at in
           leaves_here c.args.limits.now c.args.name c.run_in.new.desk.name c.requires.name c.run_in.new.desk.topic c.run_in.ensures.part (c.run_in.ensures.name ∙ opened.0) image above.0 above.1 (c.run_in.ensures.backed.each image at);
     })
+
+pub returns-in-Ok-open-clause-undamaged : goal.returns-in-Ok-open-clause-undamaged
+returns-in-Ok-open-clause-undamaged g c answered told =
+    let opened = c.in-Ok-open.ensures.opened in
+    let tied = c.in-Ok-open.ensures.told told in
+    undamaged_here c.args.limits.now c.in-Ok-open.desk.topic opened.1 opened.2 tied.0 c.in-Ok-open.ensures.lawful (g.D.Disk.seen c.args.disk.now) tied.1
