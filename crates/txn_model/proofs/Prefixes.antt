@@ -78,7 +78,7 @@ pick_above : (b : Bool) (k m : ℕ) → k ≤ m → k ≤ (if b then k else m)
 pick_above true k m h = omega arith
 pick_above false k m h = h
 
-limit_above : (all : List CoreEntry) (k : ℕ) (es : List CoreEntry) → k ≤ limit_from all k es
+pub limit_above : (all : List CoreEntry) (k : ℕ) (es : List CoreEntry) → k ≤ limit_from all k es
 limit_above all k [] = omega arith
 limit_above all k (e ∷ es) =
     let h : suc k ≤ limit_from all (suc k) es = limit_above all (suc k) es in pick_above (is_undecided all e) k (limit_from all (suc k) es) (omega (arith, h))

@@ -1,5 +1,5 @@
 -- A topic's ledger.
-use Rattle.std.specs.Prelude.{ℕ, suc, ◌+◌, min, nat_le, Bool, true, false, if◌then◌else◌, List, [], ◌∷◌, length, take, filter, Option, Some, None, is_none}
+use Rattle.std.specs.Prelude.{ℕ, suc, ◌+◌, min, nat_le, Bool, true, false, if◌then◌else◌, List, [], ◌∷◌, ◌++◌, length, take, filter, Option, Some, None, is_none, option_to_list}
 use Rattle.txn_base.specs.declared.limits.Limits.{Limits}
 use Rattle.txn_base.specs.declared.messages.Message.{Message}
 use Rattle.txn_base.specs.declared.txn.TxnId.{TxnId}
@@ -73,6 +73,11 @@ shows_by all _ m = None
 
 abbrev pub shows : List CoreEntry → ℕ → TopicEntry → Option Message
 shows all k e = shows_by all (topic_skeleton e) (message_of k e)
+
+-- From place k on, where all are the whole list, what these entries show.
+abbrev pub shown_from : List CoreEntry → ℕ → List TopicEntry → List Message
+shown_from all k [] = []
+shown_from all k (e ∷ es) = option_to_list (shows all k e) ++ shown_from all (suc k) es
 
 -- From place k on, where all are the whole list, the visible messages.
 abbrev pub visible_from : List CoreEntry → ℕ → List TopicEntry → List Message

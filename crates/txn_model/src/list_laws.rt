@@ -1,5 +1,5 @@
 //! Laws of single lists. Each function does nothing, and its contract is the law.
-ghost use Rattle.std.specs.Prelude.{◌≡◌, ◌<◌, ◌≤◌, ◌++◌, [], ◌∷◌, ℕ, List, length, map, flat_map, true, not, Some, None};
+ghost use Rattle.std.specs.Prelude.{◌≡◌, ◌<◌, ◌≤◌, ◌++◌, [], ◌∷◌, ℕ, List, length, take, map, flat_map, true, not, Some, None};
 ghost use Rattle.std.specs.List.{list_all};
 ghost use mathlib.Core.List.{IsPrefix};
 ghost use Rattle.txn_base.specs.declared.txn.TxnId.{TxnId};
@@ -14,7 +14,7 @@ ghost use Rattle.txn_model.specs.Cut.{whole_lines, last_piece};
 ghost use Rattle.txn_model.specs.Entries.{are_plain, messages_from};
 ghost use Rattle.txn_model.specs.Names.{NamesLawful, name_allows};
 ghost use Rattle.txn_model.specs.Coord.{CoordLawful, coord_allows, decision_skeleton, decision_of};
-ghost use Rattle.txn_model.specs.Topic.{TopicLawful, part_allows, visible_of, limit_of};
+ghost use Rattle.txn_model.specs.Topic.{TopicLawful, part_allows, visible_of, limit_of, shown_from};
 ghost use Rattle.txn_model.specs.Ack.{AckLawful, ack_allows, IsAcked};
 
 /// What a reader was given never lapses, whatever entries follow.
@@ -58,6 +58,12 @@ pub fn plain_messages_are_shown()
 
     // The limit is never past the length.
     ensures bound { (xs : List TopicEntry) → limit_of xs ≤ length xs }
+{}
+
+/// The visible messages are, in order, those of the entries below the limit that are plain or of a transaction with a
+/// commit marker.
+pub fn visible_messages_stand_below_the_limit()
+    ensures { (es : List TopicEntry) → visible_of es ≡ shown_from (topic_skeletons es) 0 (take (limit_of es) es) }
 {}
 
 /// The lines, each with its newline, and the last piece are the input, and no newline is left in them.
