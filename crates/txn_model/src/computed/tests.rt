@@ -7,7 +7,7 @@ use txn_base::{Bytes, Decision, TopicEntry, TxnId};
 const FIRST: TxnId = TxnId { most: 0, least: 0 };
 
 #[test]
-fn after_a_commit_both_messages_are_shown(rt: HostRuntime) -> Result<(), Fail> {
+fn plain_model_on_a_committed_transaction(rt: HostRuntime) -> Result<(), Fail> {
     let alloc = rt.alloc();
     let b = Bytes::from_slice(alloc, "b".as_bytes())?;
     let c = Bytes::from_slice(alloc, "c".as_bytes())?;
