@@ -40,6 +40,7 @@ impl<R: RecordLog> Coordinator<R> {
         ensures ok { OnOk result (self.new ≡ logged self.old entry) }
         ensures fault { result ≡ Err CoordError.Fault → self.new ≡ fenced self.old entry }
         ensures no_memory { result ≡ Err CoordError.NoMemory → self.new ≡ self.old }
+        ensures unwritten { result ≡ Err CoordError.NoMemory → disk.new ≡ disk.old }
         ensures tied { IsFrontOf self.old → IsFrontOf self.new }
         ensures backed { Backed R.stands (D.image disk.new) (self.new).content }
         ensures images { Since D.moment D.image D.left_since (Appends R.mine R.stands (self.old).content (coord_batch entry)) disk.old disk.new }
@@ -88,6 +89,7 @@ impl<R: RecordLog> Coordinator<R> {
         ensures ok { OnOk result (self.new ≡ logged self.old (CoordEntry.New (next_txn self.old) (now + timeout))) }
         ensures fault { result ≡ Err CoordError.Fault → self.new ≡ fenced self.old (CoordEntry.New (next_txn self.old) (now + timeout)) }
         ensures same { IfErr result (λ e. (e ≡ CoordError.Fault → ⊥) → self.new ≡ self.old) }
+        ensures unwritten { IfErr result (λ e. (e ≡ CoordError.Fault → ⊥) → disk.new ≡ disk.old) }
         ensures tied { IsFrontOf self.old → IsFrontOf self.new }
         ensures backed { Backed R.stands (D.image disk.new) (self.new).content }
         ensures images { Since D.moment D.image D.left_since (Appends R.mine R.stands (self.old).content (coord_batch (CoordEntry.New (next_txn self.old) (now + timeout)))) disk.old disk.new }
@@ -112,9 +114,11 @@ impl<R: RecordLog> Coordinator<R> {
         requires backed { Backed R.stands (D.image disk.old) (self.old).content }
         ensures refused { MatchOption (add_refusal self.old txn part) (MayFail result) (λ refusal. result ≡ Err refusal) }
         ensures repeated { add_refusal self.old txn part ≡ None → has_part self.old txn part ≡ true → IsOk result }
+        ensures nothing { has_part self.old txn part ≡ true → disk.new ≡ disk.old }
         ensures ok { OnOk result (self.new ≡ with_part self.old txn part) }
         ensures fault { result ≡ Err CoordError.Fault → self.new ≡ fenced self.old (CoordEntry.AddPart txn part) }
         ensures same { IfErr result (λ e. (e ≡ CoordError.Fault → ⊥) → self.new ≡ self.old) }
+        ensures unwritten { IfErr result (λ e. (e ≡ CoordError.Fault → ⊥) → disk.new ≡ disk.old) }
         ensures tied { IsFrontOf self.old → IsFrontOf self.new }
         ensures backed { Backed R.stands (D.image disk.new) (self.new).content }
         ensures images { Since D.moment D.image D.left_since (Appends R.mine R.stands (self.old).content (coord_batch (CoordEntry.AddPart txn part))) disk.old disk.new }
@@ -141,10 +145,12 @@ impl<R: RecordLog> Coordinator<R> {
         requires backed { Backed R.stands (D.image disk.old) (self.old).content }
         ensures refused { MatchOption (decide_refusal self.old txn decision) (MayFail result) (λ refusal. result ≡ Err refusal) }
         ensures repeated { decide_refusal self.old txn decision ≡ None → is_open (status_in_view self.old txn) ≡ false → IsOk result }
+        ensures nothing { is_open (status_in_view self.old txn) ≡ false → disk.new ≡ disk.old }
         ensures told { IfOk result (λ status. status ≡ decided_status self.old txn decision) }
         ensures ok { OnOk result (self.new ≡ decided self.old txn decision) }
         ensures fault { result ≡ Err CoordError.Fault → self.new ≡ fenced self.old (decision_entry txn decision) }
         ensures same { IfErr result (λ e. (e ≡ CoordError.Fault → ⊥) → self.new ≡ self.old) }
+        ensures unwritten { IfErr result (λ e. (e ≡ CoordError.Fault → ⊥) → disk.new ≡ disk.old) }
         ensures tied { IsFrontOf self.old → IsFrontOf self.new }
         ensures backed { Backed R.stands (D.image disk.new) (self.new).content }
         ensures images { Since D.moment D.image D.left_since (Appends R.mine R.stands (self.old).content (coord_batch (decision_entry txn decision))) disk.old disk.new }

@@ -1,7 +1,7 @@
 //! The replay of the log, in steps.
 ghost use Rattle.std.specs.Prelude.{◌≡◌, ◌≤◌, ◌<◌, ◌+◌, ℕ, length, Err, IsErr, IsTrue, IsOk, IfOk, IfErr, OnOk, OnErr, if◌then◌else◌};
 ghost use Rattle.txn_base.specs.declared.file_id.FileId.{FileId};
-ghost use Rattle.txn_base.specs.Content.{looked_at, Backed, Settles};
+ghost use Rattle.txn_base.specs.Content.{settled, looked_at, Backed, Settles};
 ghost use Rattle.txn_base.specs.Disk.{Since, CountsFaults};
 ghost use Rattle.txn_coordinator.specs.Mending.{AreRecordsTo, IsBadRecord, IsSettledFrom, Mends, Stays};
 ghost use Rattle.txn_model.specs.Deadlines.{low_of};
@@ -20,6 +20,8 @@ fn settle_log<D: Disk, R: RecordLog>(log: &mut R, disk: &mut D) -> Result<(), Fa
     requires backed { Backed R.stands (D.image disk.old) (R.content log.old) }
     ensures ok { OnOk result (IsSettledFrom (R.content log.old) (R.content log.new)) }
     ensures err { OnErr result (R.content log.new ≡ R.content log.old) }
+    ensures found { D.tells → OnOk result (R.stands (R.content log.old).key (D.seen disk.old) (R.content log.new).batches) }
+    ensures unfound { OnErr result ((R.content log.new).standing ≡ settled → ⊥) }
     ensures backed { Backed R.stands (D.image disk.new) (R.content log.new) }
     ensures images { Since D.moment D.image D.left_since (Settles R.mine R.stands (R.content log.old)) disk.old disk.new }
     ensures others { (other : FileId) → (R.mine (R.content log.old).key other → ⊥) → D.seen disk.new other ≡ D.seen disk.old other }
@@ -56,10 +58,15 @@ impl<R: RecordLog> Coordinator<R> {
         requires backed { Backed R.stands (D.image disk.old) (self.old).content }
         ensures already { IsTrue (self.old).whole → IsOk result }
         ensures nothing { IsTrue (self.old).whole → self.new ≡ self.old }
+        ensures idle { IsTrue (self.old).whole → (disk.new ≡ disk.old) × (steps.new ≡ steps.old) }
         ensures ok { OnOk result (Mends self.old self.new) }
         ensures told { IfOk result (λ progress. progress ≡ record { at = length (self.new).front; total = length_of self.new }) }
         ensures err { OnErr result (Stays self.old self.new) }
         ensures settled { IfErr result (λ e. (e ≡ MendError.Fault → ⊥) → IsSettledFrom (self.old).content (self.new).content) }
+        ensures standing { (self.new).content.standing ≡ looked_at → ⊥ }
+
+        // What was settled is what the files stood for at the call.
+        ensures found { D.tells → (self.new).content.standing ≡ settled → R.stands (self.old).content.key (D.seen disk.old) (self.new).content.batches }
         ensures read { D.tells → OnOk result (AreRecordsTo (self.new).content (length (self.old).front) (length (self.new).front) (self.new).front) }
         ensures damaged { (place : ℕ) → result ≡ Err (MendError.Damaged place) → (length (self.old).front ≤ place) × (place < length (self.old).front + (self.old).limits.step) }
         ensures bad { D.tells → IsFrontOf self.old → (place : ℕ) → result ≡ Err (MendError.Damaged place) → IsBadRecord (self.new).content place }
