@@ -34,6 +34,7 @@ impl<R: RecordLog> Topic<R> {
         ensures counted { OnOk result (steps.new ≡ steps.old + step_of self.old (total_of self.new)) }
         ensures steps_most { steps.new ≤ steps.old + step_of self.old (total_of self.new) }
         ensures settled { IsSettledFrom self.old.content self.new.content }
+        ensures standing { self.new.content.standing ≡ looked_at → ⊥ }
 
         // What was settled is what the files stood for at the call.
         ensures found { D.tells → self.new.content.standing ≡ settled → R.stands self.old.content.key (D.seen disk.old) self.new.content.batches }
