@@ -11,4 +11,5 @@ pub mod Reading
 pub mod Rebuilding
 pub mod Running
 pub mod Telling
+pub mod Undamaged
 pub mod Worlds

@@ -39,11 +39,22 @@ Ended status.NoMemory limits s old taken s' new left = ⊥
 Ended (status.Usage u) limits s old taken s' new left = ⊥
 Ended (status.Damaged file entry) limits s old taken s' new left = ⊥
 
--- The statuses that a run may have before its first line: damage, a fault of the disk, want of memory.
+-- The statuses of a topic that couldn't be opened: damage, a fault of the disk, want of memory.
+abbrev pub IsUnopened : RunStatus → Type 0
+IsUnopened (status.Damaged file entry) = Unit {0}
+IsUnopened status.DiskFault = Unit {0}
+IsUnopened status.NoMemory = Unit {0}
+IsUnopened status.Ok = ⊥
+IsUnopened (status.Usage u) = ⊥
+IsUnopened status.ReadFault = ⊥
+IsUnopened status.WriteFault = ⊥
+IsUnopened status.TooMuch = ⊥
+
+-- The statuses that a run over sound files may have before its first line: a fault of the disk, want of memory.
 abbrev pub IsEarly : RunStatus → Type 0
-IsEarly (status.Damaged file entry) = Unit {0}
 IsEarly status.DiskFault = Unit {0}
 IsEarly status.NoMemory = Unit {0}
+IsEarly (status.Damaged file entry) = ⊥
 IsEarly status.Ok = ⊥
 IsEarly (status.Usage u) = ⊥
 IsEarly status.ReadFault = ⊥
@@ -72,7 +83,7 @@ IsQuiet (status.Damaged file entry) = Unit {0}
 IsQuiet status.NoMemory = Unit {0}
 IsQuiet _ = ⊥
 
--- Nothing was taken, and nothing put.
+-- The disk failed or memory ran out before the first line: nothing was taken, and nothing put.
 pub record Early (ended : RunStatus) (left left' held held' : Option (List ℕ)) : Type 0 where
   pub is_early : IsEarly ended
   pub not_taken : Keeps left left'
@@ -98,7 +109,7 @@ pub record Ran (ended : RunStatus) (limits : Limits) (name : List ℕ) (w : Worl
   pub told : Ended ended limits (first_standing name w moments faults faults_of) held taken last held' left'
   pub leaves : ((c : Files) → image_before c → IsSoundBefore (name ∷ []) c) → (c : Files) → image c → Leaves (name ∷ []) last.table c
 
--- Ended before its first line, or ran.
+-- Ended before its first line, or ran. Damage is no end of a run over sound files.
 abbrev pub RunOf : RunStatus → Limits → List ℕ → World → Option (List ℕ) → (image_before image : Files → Type 0) → (before after : ℕ) → (parts_before parts_after : ℕ → ℕ) → (left left' held held' : Option (List ℕ)) → Type 0
 RunOf ended limits name w moments image_before image before after parts_before parts_after left left' held held' =
     Early ended left left' held held' ⊎ Ran ended limits name w moments image_before image before after parts_before parts_after left left' held held'

@@ -12,7 +12,7 @@ ghost use Rattle.txn_model.specs.Sound.{ledger_file};
 ghost use Rattle.txn_model.specs.Topic.{TopicLawful};
 ghost use Rattle.txn_run.specs.Desk.{IsPartOne};
 ghost use Rattle.txn_run.specs.Going.{Stands};
-ghost use Rattle.txn_run.specs.Run.{IsEarly, IsDamaged};
+ghost use Rattle.txn_run.specs.Run.{IsUnopened, IsDamaged};
 ghost use Rattle.txn_run.specs.declared.status.RunStatus.TheVariants as status;
 
 use crate::desk::OneTopic;
@@ -66,7 +66,7 @@ pub fn open<L: ledger::Ledger, D: Disk>(
     ensures backed { IfOk result (λ desk. Backed StandsIn (D.image disk.new) desk.topic.content) }
     ensures told { D.tells → IfOk result (λ desk. IsFrontOf desk.topic × StandsIn (ledger_file 1) (D.seen disk.old) desk.topic.content.batches) }
     ensures lawful { IfOk result (λ desk. TopicLawful desk.topic.front) }
-    ensures early { IfErr result IsEarly }
+    ensures unopened { IfErr result IsUnopened }
     ensures damaged { (file : FileId) (entry : ℕ) → result ≡ Err (status.Damaged file entry) → (file ≡ ledger_file 1) × (D.tells → IsDamaged (D.seen disk.old (ledger_file 1)) entry) }
     ensures images { Since D.moment D.image D.left_since (Changes (ledger_file 1) KeepsList) disk.old disk.new }
     ensures cause { CountsFaults 1 (D.faults disk.old) (D.faults disk.new) (D.part_faults disk.old) (D.part_faults disk.new) (result ≡ Err status.DiskFault) }

@@ -17,7 +17,7 @@ ghost use Rattle.txn_model.specs.Sound.{ledger_file};
 ghost use Rattle.txn_run.specs.Above.{StandsAbove, KeepsAbove, IsSoundBefore};
 ghost use Rattle.txn_run.specs.Desk.{standing, IsPartOne};
 ghost use Rattle.txn_run.specs.Going.{Stands};
-ghost use Rattle.txn_run.specs.Run.{Ended, IsEarly, IsRan, IsOpened, IsQuiet, IsAnswered, IsUndamaged, IsDamaged, RunOf};
+ghost use Rattle.txn_run.specs.Run.{Ended, IsRan, IsOpened, IsQuiet, IsAnswered, IsUndamaged, IsDamaged, RunOf};
 ghost use Rattle.txn_run.specs.Words.{command_of};
 ghost use Rattle.txn_run.specs.declared.status.RunStatus.TheVariants as status;
 

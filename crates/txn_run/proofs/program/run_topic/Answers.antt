@@ -1,8 +1,11 @@
 use Rattle.std.proofs.Common.{◌≡◌, ◌∙◌, inl, inr, refl, sym, ap, Err, subst, ℕ, List, Option}
+use Rattle.std.proofs.KnownBytes.{Keeps-refl}
 use Rattle.txn_model.specs.Replies.{Standing}
 use Rattle.txn_run.specs.Desk.{standing}
 use Rattle.txn_run.specs.Run.{Ended, first_standing}
 use Rattle.txn_run.proofs.Running.{opening_above, running_above, image_above, first_is, leaves_here, undamaged_here}
+use Rattle.txn_run.proofs.OneTopicAnswers.{not_sub}
+use Rattle.txn_run.proofs.Undamaged.{sound_not_damaged, early_here}
 use Rattle.txn_run.proofs.program.run_topic.Goals as goal
 
 pub returns-in-Ok-open-clause-images : goal.returns-in-Ok-open-clause-images
@@ -43,3 +46,12 @@ returns-in-Ok-open-clause-undamaged g c answered told =
     let opened = c.in-Ok-open.ensures.opened in
     let tied = c.in-Ok-open.ensures.told told in
     undamaged_here c.args.limits.now c.in-Ok-open.desk.topic opened.1 opened.2 tied.0 c.in-Ok-open.ensures.lawful (g.D.Disk.seen c.args.disk.now) tied.1
+
+pub returns-in-Err-clause-answers : goal.returns-in-Err-clause-answers
+returns-in-Err-clause-answers g c told ms sound =
+    inl (record {
+      is_early = early_here c.in-Err.status c.in-Err.ensures.unopened
+          (λ file entry is. sound_not_damaged c.args.name (not_sub c.args.name c.requires.name) (g.D.Disk.seen c.args.disk.now) sound entry ((c.in-Err.ensures.damaged file entry (ap Err is)).1 told));
+      not_taken = Keeps-refl _;
+      not_put = Keeps-refl _;
+    })
