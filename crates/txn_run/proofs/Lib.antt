@@ -1,4 +1,5 @@
 pub mod Above
+pub mod Counted
 pub mod DeskAnswers
 pub mod Feeding
 pub mod FirstState

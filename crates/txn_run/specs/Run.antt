@@ -1,16 +1,16 @@
 -- How a run ends.
-use Rattle.std.specs.Prelude.{◌≡◌, ◌⊎◌, ℕ, ◌<◌, ◌≤◌, List, [], ◌∷◌, length, All, Bool, Option}
+use Rattle.std.specs.Prelude.{◌≡◌, ◌⊎◌, ℕ, ◌+◌, ◌-◌, ◌^◌, ◌<◌, ◌≤◌, min, List, [], ◌∷◌, ◌++◌, length, All, Bool, Option}
 use Rattle.std.specs.Io.KnownBytes.{Consumes, Keeps, IsAtEnd}
 use Rattle.txn_base.specs.Disk.{Files}
 use Rattle.txn_base.specs.Frames.{IsDamagedAt}
-use Rattle.txn_base.specs.declared.file_id.FileId.{FileId}
 use Rattle.txn_base.specs.declared.limits.Limits.{Limits}
+use Rattle.txn_base.specs.declared.reply.Reply.{Reply}
 use Rattle.txn_buffer.specs.Mending.{IsFirstBad}
 use Rattle.txn_ledger.specs.Ledger.{StandsIn}
 use Rattle.txn_model.specs.declared.world.World.{World}
 use Rattle.txn_model.specs.Cut.{whole_lines, lines_of}
 use Rattle.txn_model.specs.Opening.{first_state}
-use Rattle.txn_model.specs.Replies.{Standing}
+use Rattle.txn_model.specs.Replies.{Standing, count_faults}
 use Rattle.txn_model.specs.Sound.{ledger_file, StandsFor}
 use Rattle.txn_model.specs.Table.{TableState}
 use Rattle.txn_model.specs.World.{kept}
@@ -38,6 +38,17 @@ Ended status.TooMuch limits s old taken s' new left = (length taken ≡ limits.i
 Ended status.NoMemory limits s old taken s' new left = ⊥
 Ended (status.Usage u) limits s old taken s' new left = ⊥
 Ended (status.Damaged file entry) limits s old taken s' new left = ⊥
+
+-- The replies that were told in such an end.
+abbrev pub replies_in : (ended : RunStatus) (limits : Limits) (s : Standing) (old : Option (List ℕ)) (taken : List ℕ) (s' : Standing) (new left : Option (List ℕ)) → Ended ended limits s old taken s' new left → List Reply
+replies_in status.Ok limits s old taken s' new left (at_end, within, so) = so.told
+replies_in status.ReadFault limits s old taken s' new left (within, so) = so.told
+replies_in status.WriteFault limits s old taken s' new left (within, (lines, more, split, so)) = so.told
+replies_in status.DiskFault limits s old taken s' new left (within, (lines, more, split, so)) = so.told ++ so.last ∷ []
+replies_in status.TooMuch limits s old taken s' new left (all, so) = so.told
+replies_in status.NoMemory limits s old taken s' new left never = []
+replies_in (status.Usage u) limits s old taken s' new left never = []
+replies_in (status.Damaged file entry) limits s old taken s' new left never = []
 
 -- The statuses of a topic that couldn't be opened: damage, a fault of the disk, want of memory.
 abbrev pub IsUnopened : RunStatus → Type 0
@@ -94,7 +105,8 @@ abbrev pub first_standing : List ℕ → World → Option (List ℕ) → ℕ →
 first_standing name w moments faults faults_of = record { table = first_state w (name ∷ []); moments = moments; faults = faults; faults_of = faults_of }
 
 -- A run over the files that stood for the world w and were opened, when the counts stood at f and fs, which is not before
--- those of the call: its lines are answered by the table, and where each image at the call was sound, each image that is left
+-- those of the call: its lines are answered by the table. The replies that tell of a fault are at most as many as the disk's
+-- count rose by since the call, unless it stands at its end. Where each image at the call was sound, each image that is left
 -- is one that the last table keeps.
 pub record Ran (ended : RunStatus) (limits : Limits) (name : List ℕ) (w : World) (moments : Option (List ℕ)) (image_before image : Files → Type 0) (before after : ℕ) (parts_before parts_after : ℕ → ℕ) (left left' held held' : Option (List ℕ)) : Type 0 where
   pub faults : ℕ
@@ -107,6 +119,7 @@ pub record Ran (ended : RunStatus) (limits : Limits) (name : List ℕ) (w : Worl
   pub taken : List ℕ
   pub came : Consumes left left' taken
   pub told : Ended ended limits (first_standing name w moments faults faults_of) held taken last held' left'
+  pub counted : min (before + count_faults (replies_in ended limits (first_standing name w moments faults faults_of) held taken last held' left' told)) (2 ^ 64 - 1) ≤ after
   pub leaves : ((c : Files) → image_before c → IsSoundBefore (name ∷ []) c) → (c : Files) → image c → Leaves (name ∷ []) last.table c
 
 -- Ended before its first line, or ran. Damage is no end of a run over sound files.
