@@ -1,5 +1,5 @@
 -- A run that takes its last bytes.
-use Rattle.std.proofs.Common.{◌≡◌, ℕ, ◌+◌, ◌<◌, ◌≤◌, List, [], ◌++◌, length, take, Option, refl, sym, ap, ap₂, ◌∙◌, subst, append-nil, length-append, arith}
+use Rattle.std.proofs.Common.{◌≡◌, ℕ, ◌+◌, ◌≤◌, zero, suc, List, [], ◌++◌, length, take, Option, refl, ap₂, ◌∙◌, subst, append-nil, length-append, arith}
 use Rattle.std.specs.Io.KnownBytes.{Consumes, Keeps}
 use Rattle.std.proofs.KnownBytes.{Consumes-trans, Consumes-kept}
 use Rattle.txn_base.specs.declared.limits.Limits.{Limits}
@@ -27,3 +27,18 @@ reads_end limits s old left taken p u mid left' left'' chunk n none r last = (r.
 pub came_more : (left left' left'' : Option (List ℕ)) (bytes more : List ℕ) (taken n : ℕ) → Consumes left left' bytes → length bytes ≡ taken → Consumes left' left'' more → length more ≡ n → (all : List ℕ) × Consumes left left'' all × (length all ≡ taken + n)
 came_more left left' left'' bytes more taken n came count last long =
     (bytes ++ more, Consumes-trans left left' left'' bytes more came last, length-append bytes more ∙ ap₂ (λ (a b : ℕ). a + b) count long)
+
+-- ---- something was taken
+
+pub none_taken : (taken n : ℕ) → (n ≡ 0 → ⊥) → taken + n ≡ 0 → ⊥
+none_taken taken n some none = some (omega (arith, none))
+
+above_none : (n : ℕ) → (n ≡ 0 → ⊥) → 1 ≤ n
+above_none zero h = absurd (h refl)
+above_none (suc n) h = omega arith
+
+pub some_taken : (taken : ℕ) (bytes : List ℕ) → length bytes ≡ taken → (taken ≡ 0 → ⊥) → 1 ≤ length bytes
+some_taken taken bytes long some = omega (arith, long, above_none taken some)
+
+pub some_more : (taken n : ℕ) (bytes : List ℕ) → length bytes ≡ taken + n → (n ≡ 0 → ⊥) → 1 ≤ length bytes
+some_more taken n bytes long some = omega (arith, long, above_none n some)

@@ -1,7 +1,7 @@
 -- What stands after a line was told.
-use Rattle.std.proofs.Common.{◌⊎◌, IsTrue, true≢false, ◌≡◌, ℕ, ◌+◌, List, [], ◌∷◌, ◌++◌, length, take, map, Bool, true, false, Option, Result, Ok, Err, OnOk, OnErr, inl, inr, refl, sym, ap, ◌∙◌, subst, append_assoc, append-nil}
+use Rattle.std.proofs.Common.{◌⊎◌, IsTrue, true≢false, ◌≡◌, ℕ, ◌+◌, List, [], ◌∷◌, ◌++◌, length, take, Bool, true, false, Option, Result, Ok, Err, OnOk, OnErr, inl, inr, refl, sym, ap, ◌∙◌, subst, append_assoc, append-nil}
 use Rattle.std.specs.Io.KnownBytes.{Appends}
-use Rattle.std.proofs.KnownBytes.{Appends-trans}
+use Rattle.std.proofs.KnownBytes.{Appends-nil, Appends-trans}
 use Rattle.std.proofs.lemmas.Grind.{flat_map-append}
 use Rattle.std.proofs.Math.Seq.{take-append-add}
 use Rattle.txn_base.specs.Outside.{PutsAll}
@@ -13,7 +13,7 @@ use Rattle.txn_model.specs.Replies.{Standing, Kind, Replied, Replies, is_fault}
 use Rattle.txn_wire.specs.Replies.{text_of}
 use Rattle.txn_wire.specs.Short.{is_long}
 use Rattle.txn_run.specs.Kinds.{line_kind, line_kinds}
-use Rattle.txn_run.specs.Told.{texts, ToldLine, ToldFront, ToldFault, Told, ToldToFault, CutOff, StandsFor, MayTell}
+use Rattle.txn_run.specs.Told.{texts, Grows, EndsWithFault, ToldLine, ToldFront, ToldFault, Told, ToldToFault, CutOff, StandsFor, MayTell}
 
 -- ---- one reply, or want of memory in its place
 
@@ -128,3 +128,27 @@ told_fault limits s kind r told s' old new h (inr e) fault put = absurd (long_no
 pub not_whole : (whole fault : Bool) → whole ≡ false → IsTrue whole ⊎ (fault ≡ true) → fault ≡ true
 not_whole whole fault e (inl h) = absurd (true≢false (sym h ∙ e))
 not_whole whole fault e (inr h) = h
+
+-- ---- what was put, on every disk
+
+pub grows_none : (a : Option (List ℕ)) → Grows a a
+grows_none a = ([], Appends-nil a)
+
+pub grows_then : (a b c : Option (List ℕ)) → Grows a b → Grows b c → Grows a c
+grows_then a b c one two = (one.0 ++ two.0, Appends-trans a b c one.0 two.0 one.1 two.1)
+
+pub puts_grow : {T E : Type 0} (old new : Option (List ℕ)) (r : Result T E) (bytes : List ℕ) → PutsAll old new r bytes → Grows old new
+puts_grow old new (Ok x) bytes h = (bytes, h)
+puts_grow old new (Err e) bytes h = (take h.0 bytes, h.2)
+
+pub ends_with_fault : (r told : Reply) (old new : Option (List ℕ)) → StandsFor r told → is_fault r ≡ true → Appends old new (text_of told) → EndsWithFault old new
+ends_with_fault r told old new (inl e) fault put = record { before = []; last = told; fault = ap is_fault e ∙ fault; put = put }
+ends_with_fault r told old new (inr e) fault put = absurd (long_no_fault r e.1 fault)
+
+pub ends_after : (a b c : Option (List ℕ)) → Grows a b → EndsWithFault b c → EndsWithFault a c
+ends_after a b c one two = record {
+  before = one.0 ++ two.before;
+  last = two.last;
+  fault = two.fault;
+  put = subst (Appends a c) (sym (append_assoc one.0 two.before (text_of two.last))) (Appends-trans a b c one.0 (two.before ++ text_of two.last) one.1 two.put);
+}

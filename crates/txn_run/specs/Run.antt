@@ -19,7 +19,7 @@ use Rattle.txn_base.specs.Frames.{Batch, records}
 use Rattle.txn_buffer.specs.Record.{IsInGrammar}
 use Rattle.txn_model.specs.Topic.{TopicLawful}
 use Rattle.txn_run.specs.Above.{IsSoundBefore}
-use Rattle.txn_run.specs.Told.{Told, Broken, Stopped}
+use Rattle.txn_run.specs.Told.{Told, Broken, Stopped, EndsWithFault}
 use Rattle.txn_run.specs.declared.status.RunStatus.{RunStatus}
 use Rattle.txn_run.specs.declared.status.RunStatus.TheVariants as status
 
@@ -93,6 +93,13 @@ abbrev pub IsQuiet : RunStatus → Type 0
 IsQuiet (status.Damaged file entry) = Unit {0}
 IsQuiet status.NoMemory = Unit {0}
 IsQuiet _ = ⊥
+
+-- Something was taken, and what was put ends with the text of a reply that tells of a fault.
+pub record FaultIsLast (left left' held held' : Option (List ℕ)) : Type 0 where
+  pub taken : List ℕ
+  pub some : 1 ≤ length taken
+  pub came : Consumes left left' taken
+  pub told : EndsWithFault held held'
 
 -- The disk failed or memory ran out before the first line: nothing was taken, and nothing put.
 pub record Early (ended : RunStatus) (left left' held held' : Option (List ℕ)) : Type 0 where

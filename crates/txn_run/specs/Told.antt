@@ -1,11 +1,11 @@
 -- What was put into the sink for lines that were answered.
-use Rattle.std.specs.Prelude.{◌≡◌, ◌⊎◌, ℕ, ◌+◌, ◌-◌, ◌^◌, ◌≤◌, min, List, [], ◌∷◌, ◌++◌, length, take, flat_map, Bool, true, false, Option}
+use Rattle.std.specs.Prelude.{◌≡◌, ◌⊎◌, ℕ, List, [], ◌∷◌, ◌++◌, take, flat_map, true, false, Option}
 use Rattle.std.specs.Io.KnownBytes.{Appends}
 use Rattle.txn_base.specs.declared.limits.Limits.{Limits}
 use Rattle.txn_base.specs.declared.reply.Reply.{Reply}
 use Rattle.txn_base.specs.declared.reply.Reply.TheVariants as reply
 use Rattle.txn_base.specs.declared.reply.Refusal.TheVariants as no
-use Rattle.txn_model.specs.Replies.{Standing, Kind, Replied, Replies, is_fault, count_faults}
+use Rattle.txn_model.specs.Replies.{Standing, Kind, Replied, Replies, is_fault}
 use Rattle.txn_wire.specs.Replies.{text_of}
 use Rattle.txn_wire.specs.Short.{IsShort, is_long}
 use Rattle.txn_run.specs.Kinds.{line_kinds}
@@ -13,6 +13,17 @@ use Rattle.txn_run.specs.Kinds.{line_kinds}
 -- The texts of replies, one behind the other.
 abbrev pub texts : List Reply → List ℕ
 texts told = flat_map text_of told
+
+-- Something was put, or nothing.
+abbrev pub Grows : Option (List ℕ) → Option (List ℕ) → Type 0
+Grows old new = (bytes : List ℕ) × Appends old new bytes
+
+-- What was put ends with the text of a reply that tells of a fault.
+pub record EndsWithFault (old new : Option (List ℕ)) : Type 0 where
+  pub before : List ℕ
+  pub last : Reply
+  pub fault : is_fault last ≡ true
+  pub put : Appends old new (before ++ text_of last)
 
 -- A line of this kind was told so, and the texts of that were put; or a front of them.
 abbrev pub ToldLine : Limits → Standing → Kind → Standing → Option (List ℕ) → Option (List ℕ) → Type 0

@@ -15,7 +15,7 @@ ghost use Rattle.txn_run.specs.Above.{KeepsAbove};
 ghost use Rattle.txn_run.specs.Desk.{standing, IsPartOne, tells_fault};
 ghost use Rattle.txn_run.specs.Going.{Stands, Going, GoesOn, BreaksOff, StopsIn};
 ghost use Rattle.txn_run.specs.Kinds.{is_answered, line_kind};
-ghost use Rattle.txn_run.specs.Told.{IsTellable, ToldLine, ToldFront, ToldFault, Told, Broken, Stopped, MayTell};
+ghost use Rattle.txn_run.specs.Told.{IsTellable, Grows, EndsWithFault, ToldLine, ToldFront, ToldFault, Told, Broken, Stopped, MayTell};
 ghost use Rattle.txn_run.specs.declared.lines.Stop.TheVariants as stop;
 
 use crate::desk::OneTopic;
@@ -126,6 +126,8 @@ fn answer_line<D: Disk, O: Sink, L: ledger::Ledger>(
     ensures ok { result ≡ Ok tt → D.tells → IsFrontOf desk.old.topic → (ms : Option (List ℕ)) (piece : List ℕ) → Stands limits.now.line pending.now piece → ToldLine limits.now (standing desk.old.name desk.old.topic ms (D.faults disk.old) (D.part_faults disk.old)) (line_kind limits.now piece) (standing desk.new.name desk.new.topic ms (D.faults disk.new) (D.part_faults disk.new)) (O.held sink.old) (O.held sink.new) }
     ensures sink { result ≡ Err stop.Sink → D.tells → IsFrontOf desk.old.topic → (ms : Option (List ℕ)) (piece : List ℕ) → Stands limits.now.line pending.now piece → ToldFront limits.now (standing desk.old.name desk.old.topic ms (D.faults disk.old) (D.part_faults disk.old)) (line_kind limits.now piece) (standing desk.new.name desk.new.topic ms (D.faults disk.new) (D.part_faults disk.new)) (O.held sink.old) (O.held sink.new) }
     ensures disk { result ≡ Err stop.Disk → D.tells → IsFrontOf desk.old.topic → (ms : Option (List ℕ)) (piece : List ℕ) → Stands limits.now.line pending.now piece → ToldFault limits.now (standing desk.old.name desk.old.topic ms (D.faults disk.old) (D.part_faults disk.old)) (line_kind limits.now piece) (standing desk.new.name desk.new.topic ms (D.faults disk.new) (D.part_faults disk.new)) (O.held sink.old) (O.held sink.new) }
+    ensures grown { Grows (O.held sink.old) (O.held sink.new) }
+    ensures stopped { result ≡ Err stop.Disk → EndsWithFault (O.held sink.old) (O.held sink.new) }
     ensures whole { OnOk result (IsTrue desk.new.topic.whole) }
     ensures name { desk.new.name ≡ desk.old.name }
     ensures part { IsPartOne limits.now desk.new.topic }
@@ -175,6 +177,8 @@ fn take_byte<D: Disk, O: Sink, L: ledger::Ledger>(
     ensures ok { result ≡ Ok tt → D.tells → IsFrontOf desk.old.topic → (ms : Option (List ℕ)) → GoesOn limits.now (byte ∷ []) pending.old (standing desk.old.name desk.old.topic ms (D.faults disk.old) (D.part_faults disk.old)) (O.held sink.old) pending.new (standing desk.new.name desk.new.topic ms (D.faults disk.new) (D.part_faults disk.new)) (O.held sink.new) }
     ensures sink { result ≡ Err stop.Sink → D.tells → IsFrontOf desk.old.topic → (ms : Option (List ℕ)) → BreaksOff limits.now (byte ∷ []) pending.old (standing desk.old.name desk.old.topic ms (D.faults disk.old) (D.part_faults disk.old)) (O.held sink.old) (standing desk.new.name desk.new.topic ms (D.faults disk.new) (D.part_faults disk.new)) (O.held sink.new) }
     ensures disk { result ≡ Err stop.Disk → D.tells → IsFrontOf desk.old.topic → (ms : Option (List ℕ)) → StopsIn limits.now (byte ∷ []) pending.old (standing desk.old.name desk.old.topic ms (D.faults disk.old) (D.part_faults disk.old)) (O.held sink.old) (standing desk.new.name desk.new.topic ms (D.faults disk.new) (D.part_faults disk.new)) (O.held sink.new) }
+    ensures grown { Grows (O.held sink.old) (O.held sink.new) }
+    ensures stopped { result ≡ Err stop.Disk → EndsWithFault (O.held sink.old) (O.held sink.new) }
     ensures whole { OnOk result (IsTrue desk.new.topic.whole) }
     ensures name { desk.new.name ≡ desk.old.name }
     ensures part { IsPartOne limits.now desk.new.topic }
@@ -221,6 +225,8 @@ pub fn feed<D: Disk, O: Sink, L: ledger::Ledger>(
     ensures ok { result ≡ Ok tt → D.tells → IsFrontOf desk.old.topic → (ms : Option (List ℕ)) → GoesOn limits.now bytes.now pending.old (standing desk.old.name desk.old.topic ms (D.faults disk.old) (D.part_faults disk.old)) (O.held sink.old) pending.new (standing desk.new.name desk.new.topic ms (D.faults disk.new) (D.part_faults disk.new)) (O.held sink.new) }
     ensures sink { result ≡ Err stop.Sink → D.tells → IsFrontOf desk.old.topic → (ms : Option (List ℕ)) → BreaksOff limits.now bytes.now pending.old (standing desk.old.name desk.old.topic ms (D.faults disk.old) (D.part_faults disk.old)) (O.held sink.old) (standing desk.new.name desk.new.topic ms (D.faults disk.new) (D.part_faults disk.new)) (O.held sink.new) }
     ensures disk { result ≡ Err stop.Disk → D.tells → IsFrontOf desk.old.topic → (ms : Option (List ℕ)) → StopsIn limits.now bytes.now pending.old (standing desk.old.name desk.old.topic ms (D.faults disk.old) (D.part_faults disk.old)) (O.held sink.old) (standing desk.new.name desk.new.topic ms (D.faults disk.new) (D.part_faults disk.new)) (O.held sink.new) }
+    ensures grown { Grows (O.held sink.old) (O.held sink.new) }
+    ensures stopped { result ≡ Err stop.Disk → EndsWithFault (O.held sink.old) (O.held sink.new) }
     ensures whole { OnOk result (IsTrue desk.new.topic.whole) }
     ensures name { desk.new.name ≡ desk.old.name }
     ensures part { IsPartOne limits.now desk.new.topic }
@@ -261,6 +267,7 @@ pub fn finish<D: Disk, O: Sink, L: ledger::Ledger>(
     ensures ok { result ≡ Ok tt → D.tells → IsFrontOf desk.old.topic → (ms : Option (List ℕ)) (first : Standing) (old : Option (List ℕ)) (fed : List ℕ) → Going limits.now first old fed pending.now (standing desk.old.name desk.old.topic ms (D.faults disk.old) (D.part_faults disk.old)) (O.held sink.old) → Told limits.now first (lines_of fed) (standing desk.new.name desk.new.topic ms (D.faults disk.new) (D.part_faults disk.new)) old (O.held sink.new) }
     ensures sink { result ≡ Err stop.Sink → D.tells → IsFrontOf desk.old.topic → (ms : Option (List ℕ)) (first : Standing) (old : Option (List ℕ)) (fed : List ℕ) → Going limits.now first old fed pending.now (standing desk.old.name desk.old.topic ms (D.faults disk.old) (D.part_faults disk.old)) (O.held sink.old) → Broken limits.now first old (lines_of fed) (standing desk.new.name desk.new.topic ms (D.faults disk.new) (D.part_faults disk.new)) (O.held sink.new) }
     ensures disk { result ≡ Err stop.Disk → D.tells → IsFrontOf desk.old.topic → (ms : Option (List ℕ)) (first : Standing) (old : Option (List ℕ)) (fed : List ℕ) → Going limits.now first old fed pending.now (standing desk.old.name desk.old.topic ms (D.faults disk.old) (D.part_faults disk.old)) (O.held sink.old) → Stopped limits.now first old (lines_of fed) (standing desk.new.name desk.new.topic ms (D.faults disk.new) (D.part_faults disk.new)) (O.held sink.new) }
+    ensures stopped { result ≡ Err stop.Disk → (Stands limits.now.line pending.now [] → ⊥) × EndsWithFault (O.held sink.old) (O.held sink.new) }
     ensures name { desk.new.name ≡ desk.old.name }
     ensures part { IsPartOne limits.now desk.new.topic }
     ensures tied { IsFrontOf desk.old.topic → IsFrontOf desk.new.topic }

@@ -17,7 +17,7 @@ ghost use Rattle.txn_model.specs.Sound.{ledger_file};
 ghost use Rattle.txn_run.specs.Above.{StandsAbove, KeepsAbove, IsSoundBefore};
 ghost use Rattle.txn_run.specs.Desk.{standing, IsPartOne};
 ghost use Rattle.txn_run.specs.Going.{Stands};
-ghost use Rattle.txn_run.specs.Run.{Ended, IsRan, IsOpened, IsQuiet, IsAnswered, IsUndamaged, IsDamaged, RunOf};
+ghost use Rattle.txn_run.specs.Run.{Ended, FaultIsLast, IsRan, IsOpened, IsQuiet, IsAnswered, IsUndamaged, IsDamaged, RunOf};
 ghost use Rattle.txn_run.specs.Words.{command_of};
 ghost use Rattle.txn_run.specs.declared.status.RunStatus.TheVariants as status;
 
@@ -57,6 +57,7 @@ pub fn run<D: Disk, I: Source, O: Sink, K: Clock>(
     ensures undamaged { IsAnswered result → D.tells → IsUndamaged (D.seen disk.old (ledger_file 1)) }
     ensures damaged { (file : FileId) (entry : ℕ) → result ≡ status.Damaged file entry → (file ≡ ledger_file 1) × (D.tells → IsDamaged (D.seen disk.old (ledger_file 1)) entry) }
     ensures quiet { IsQuiet result → (source.new ≡ source.old) × (sink.new ≡ sink.old) }
+    ensures stopped { result ≡ status.DiskFault → ((source.new ≡ source.old) × (sink.new ≡ sink.old)) ⊎ (FaultIsLast (I.left source.old) (I.left source.new) (O.held sink.old) (O.held sink.new) × (D.tells → IsUndamaged (D.seen disk.old (ledger_file 1)))) }
     ensures taken { (taken : List ℕ) × Consumes (I.left source.old) (I.left source.new) taken × (length taken ≤ limits.now.input) × (result ≡ status.TooMuch → length taken ≡ limits.now.input) }
     ensures clock { clock.new ≡ clock.old }
     ensures read { result ≡ status.ReadFault → Rose (I.faults source.old) (I.faults source.new) }
@@ -91,6 +92,7 @@ fn with_count<L: ledger::Ledger, D: Disk, I: Source, O: Sink>(
     ensures images { Since D.moment D.image D.left_since (KeepsAbove (name ∷ [])) disk.old disk.new }
     ensures statuses { IsOpened result }
     ensures quiet { IsQuiet result → (source.new ≡ source.old) × (sink.new ≡ sink.old) }
+    ensures stopped { result ≡ status.DiskFault → ((source.new ≡ source.old) × (sink.new ≡ sink.old)) ⊎ (FaultIsLast (I.left source.old) (I.left source.new) (O.held sink.old) (O.held sink.new) × (D.tells → IsUndamaged (D.seen disk.old (ledger_file 1)))) }
     ensures undamaged { IsAnswered result → D.tells → IsUndamaged (D.seen disk.old (ledger_file 1)) }
     ensures damaged { (file : FileId) (entry : ℕ) → result ≡ status.Damaged file entry → (file ≡ ledger_file 1) × (D.tells → IsDamaged (D.seen disk.old (ledger_file 1)) entry) }
     ensures taken { (taken : List ℕ) × Consumes (I.left source.old) (I.left source.new) taken × (length taken ≤ limits.now.input) × (result ≡ status.TooMuch → length taken ≡ limits.now.input) }
@@ -118,6 +120,7 @@ fn run_topic<L: ledger::Ledger, D: Disk, I: Source, O: Sink>(
     ensures images { Since D.moment D.image D.left_since (KeepsAbove (name ∷ [])) disk.old disk.new }
     ensures statuses { IsOpened result }
     ensures quiet { IsQuiet result → (source.new ≡ source.old) × (sink.new ≡ sink.old) }
+    ensures stopped { result ≡ status.DiskFault → ((source.new ≡ source.old) × (sink.new ≡ sink.old)) ⊎ (FaultIsLast (I.left source.old) (I.left source.new) (O.held sink.old) (O.held sink.new) × (D.tells → IsUndamaged (D.seen disk.old (ledger_file 1)))) }
     ensures undamaged { IsAnswered result → D.tells → IsUndamaged (D.seen disk.old (ledger_file 1)) }
     ensures damaged { (file : FileId) (entry : ℕ) → result ≡ status.Damaged file entry → (file ≡ ledger_file 1) × (D.tells → IsDamaged (D.seen disk.old (ledger_file 1)) entry) }
     ensures taken { (taken : List ℕ) × Consumes (I.left source.old) (I.left source.new) taken × (length taken ≤ limits.now.input) × (result ≡ status.TooMuch → length taken ≡ limits.now.input) }
@@ -177,6 +180,7 @@ fn run_in<L: ledger::Ledger, D: Disk, I: Source, O: Sink>(
     requires backed { Backed StandsIn (D.image disk.old) desk.old.topic.content }
     ensures answers { D.tells → IsFrontOf desk.old.topic → (ms : Option (List ℕ)) → (taken : List ℕ) × Consumes (I.left source.old) (I.left source.new) taken × Ended result limits.now (standing desk.old.name desk.old.topic ms (D.faults disk.old) (D.part_faults disk.old)) (O.held sink.old) taken (standing desk.new.name desk.new.topic ms (D.faults disk.new) (D.part_faults disk.new)) (O.held sink.new) (I.left source.new) }
     ensures taken { (taken : List ℕ) × Consumes (I.left source.old) (I.left source.new) taken × (length taken ≤ limits.now.input) × (result ≡ status.TooMuch → length taken ≡ limits.now.input) }
+    ensures stopped { result ≡ status.DiskFault → FaultIsLast (I.left source.old) (I.left source.new) (O.held sink.old) (O.held sink.new) }
     ensures statuses { IsRan result }
     ensures name { desk.new.name ≡ desk.old.name }
     ensures part { IsPartOne limits.now desk.new.topic }

@@ -1,7 +1,8 @@
-use Rattle.std.proofs.Common.{◌<◌, length, ◌≡◌, ◌∙◌, ◌+◌, ◌++◌, ◌∷◌, [], ℕ, List, take, drop, get_or, refl, sym, ap, subst, arith, append_assoc, take-append-drop}
+use Rattle.std.proofs.Common.{◌<◌, length, ◌≡◌, ◌∙◌, ◌+◌, ◌++◌, ◌∷◌, [], ℕ, List, take, drop, get_or, refl, sym, ap, arith, append_assoc, take-append-drop}
 use Rattle.std.proofs.lemmas.List.{take_more, take_all}
 use Rattle.txn_run.proofs.Feeding.{goes_then, goes_breaks, goes_stops, goes_along, breaks_along, stops_along}
 use Rattle.txn_run.proofs.Keeping.{keeps_then, counts_then, counts_none}
+use Rattle.txn_run.proofs.Telling.{grows_then, ends_after}
 use Rattle.txn_run.proofs.lines.feed.Goals as goal
 
 module _ (bs : List ℕ) (i : ℕ) where
@@ -40,6 +41,7 @@ loop-byte-preserved g c =
       kept = omega (arith, was.kept, now.kept);
       writes_later = omega (arith, was.writes_later, now.writes_later);
       beside = now.beside ∙ was.beside;
+      grown = grows_then _ _ _ was.grown now.grown;
       whole = now.whole;
       part = now.part;
       name = now.name ∙ was.name;
@@ -54,3 +56,9 @@ pub returns-clause-ok : goal.returns-clause-ok
 returns-clause-ok g c ok told tied ms =
     let all : take c.loop-byte.byte-index c.args.bytes.now ≡ c.args.bytes.now = take_all _ _ c.loop-byte-test.false in
     goes_along c.args.limits.now _ c.args.bytes.now _ _ _ _ _ _ all (c.loop-byte.invariant.so told tied ms)
+
+pub returns-in-Err-clause-grown : goal.returns-in-Err-clause-grown
+returns-in-Err-clause-grown g c = grows_then _ _ _ c.loop-byte.invariant.grown c.in-Err.ensures.grown
+
+pub returns-in-Err-clause-stopped : goal.returns-in-Err-clause-stopped
+returns-in-Err-clause-stopped g c is = ends_after _ _ _ c.loop-byte.invariant.grown (c.in-Err.ensures.stopped is)

@@ -7,6 +7,7 @@ use Rattle.txn_ledger.specs.Ledger.{StandsIn}
 use Rattle.txn_run.specs.Above.{KeepsAbove}
 use Rattle.txn_run.specs.Desk.{standing, IsPartOne}
 use Rattle.txn_run.specs.Going.{GoesOn}
+use Rattle.txn_run.specs.Told.{Grows}
 use Rattle.txn_run.proofs.lines.feed.Given as goal
 
 abbrev pub invariant-loop-byte : goal.invariant-loop-byte
@@ -15,6 +16,7 @@ invariant-loop-byte g l = record {
   kept : capacity l.fn.out ≤ capacity l.out;
   writes_later : g.O.Sink.faults l.fn.sink ≤ g.O.Sink.faults l.sink;
   beside : g.O.Sink.rest l.sink ≡ g.O.Sink.rest l.fn.sink;
+  grown : Grows (g.O.Sink.held l.fn.sink) (g.O.Sink.held l.sink);
   whole : IsTrue l.desk.topic.whole;
   part : IsPartOne l.limits l.desk.topic;
   name : l.desk.name ≡ l.fn.desk.name;

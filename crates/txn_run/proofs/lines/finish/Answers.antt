@@ -1,4 +1,4 @@
-use Rattle.std.proofs.Common.{◌∙◌, sym}
+use Rattle.std.proofs.Common.{◌∙◌, [], sym, true≢false}
 use Rattle.txn_model.specs.Cut.{last_piece}
 use Rattle.txn_run.proofs.Feeding.{told_all, told_last, broken_last, stopped_last}
 use Rattle.txn_run.proofs.lines.finish.Goals as goal
@@ -17,3 +17,6 @@ returns-clause-disk g c stopped told tied ms first old fed so =
 
 pub returns-then-is_empty-clause-ok : goal.returns-then-is_empty-clause-ok
 returns-then-is_empty-clause-ok g c ok told tied ms first old fed so = told_all _ first old fed _ _ _ so (sym (c.is_empty.ensures _ (last_piece fed) so.piece) ∙ c.if-is_empty.true)
+
+pub returns-clause-stopped : goal.returns-clause-stopped
+returns-clause-stopped g c stopped = ((λ none. true≢false (sym (c.is_empty.ensures _ [] none) ∙ c.if-is_empty.false)), c.answer_line.ensures.stopped stopped)

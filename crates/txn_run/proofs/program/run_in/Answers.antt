@@ -1,9 +1,9 @@
-use Rattle.std.proofs.Common.{◌≡◌, ◌≤◌, ◌<◌, ◌+◌, ◌∷◌, ◌++◌, [], ℕ, List, Option, take, length, arith, length-take, refl, sym, ap, Err, ◌∙◌}
-use Rattle.std.specs.Io.KnownBytes.{Consumes}
-use Rattle.std.proofs.KnownBytes.{Consumes-trans, Consumes-kept}
+use Rattle.std.proofs.Common.{◌≡◌, ◌≤◌, ◌+◌, ◌∷◌, [], take, length, arith, length-take, refl, ap, Err, ◌∙◌}
+use Rattle.std.proofs.KnownBytes.{Consumes-kept}
 use Rattle.txn_run.proofs.Feeding.{reads_more, reads_broken, reads_stopped}
 use Rattle.txn_run.proofs.Keeping.{keeps_then, counts_then, counts_none}
-use Rattle.txn_run.proofs.Reading.{reads_kept, reads_end, came_more}
+use Rattle.txn_run.proofs.Reading.{reads_kept, reads_end, came_none, came_more, none_taken, some_taken, some_more}
+use Rattle.txn_run.proofs.Telling.{grows_then, ends_after}
 use Rattle.txn_run.proofs.program.run_in.Goals as goal
 
 pub returns-in-Err-clause-answers : goal.returns-in-Err-clause-answers
@@ -53,6 +53,8 @@ loop-taken-preserved g c =
       out = omega (arith, now.kept);
       reads = omega (arith, was.reads, c.take_into.ensures.cause.later);
       writes = omega (arith, was.writes, now.writes_later);
+      grown = grows_then _ _ _ was.grown now.grown;
+      fresh = λ none. absurd (none_taken c.loop-taken.taken c.in-Ok.count c.if-count-eq0.false none);
       whole = now.whole;
       part = now.part;
       name = now.name ∙ was.name;
@@ -104,3 +106,32 @@ pub returns-clause-answers : goal.returns-clause-answers
 returns-clause-answers g c told tied ms =
     let r = c.loop-taken.invariant.so told tied ms in
     (r.fed, r.came, (omega (arith, r.count, c.loop-taken.invariant.within, c.loop-taken-test.false), r.going.told))
+
+pub returns-in-Err-Disk-clause-taken : goal.returns-in-Err-Disk-clause-taken
+returns-in-Err-Disk-clause-taken g c =
+    let so = c.loop-taken.invariant.came in
+    (so.0, came_none _ _ _ so.0 c.take_into.new.chunk c.in-Ok.count c.if-count-eq0.true so.1 c.in-Ok.ensures.bytes.0, omega (arith, so.2, c.loop-taken.invariant.within), λ is. cc)
+
+pub returns-in-Err-Disk-clause-stopped : goal.returns-in-Err-Disk-clause-stopped
+returns-in-Err-Disk-clause-stopped g c is =
+    let was = c.loop-taken.invariant in
+    let told = c.in-Err-Disk.ensures.stopped (ap Err c.in-Err-Disk.field-0-is) in
+    record {
+      taken = was.came.0;
+      some = some_taken c.loop-taken.taken was.came.0 was.came.2 (λ none. told.0 (was.fresh none));
+      came = came_none _ _ _ was.came.0 c.take_into.new.chunk c.in-Ok.count c.if-count-eq0.true was.came.1 c.in-Ok.ensures.bytes.0;
+      told = ends_after _ _ _ was.grown told.1;
+    }
+
+pub returns-in-Err-Disk-feed-clause-stopped : goal.returns-in-Err-Disk-feed-clause-stopped
+returns-in-Err-Disk-feed-clause-stopped g c is =
+    let bytes = take c.in-Ok.count c.take_into.new.chunk in
+    let long : length bytes ≡ c.in-Ok.count = omega (arith, length-take c.in-Ok.count c.take_into.new.chunk, c.in-Ok.ensures.bound, c.min-most.ensures, c.take_into.auto.chunk) in
+    let was = c.loop-taken.invariant in
+    let all = came_more _ _ _ was.came.0 bytes c.loop-taken.taken c.in-Ok.count was.came.1 was.came.2 c.in-Ok.ensures.bytes.0 long in
+    record {
+      taken = all.0;
+      some = some_more c.loop-taken.taken c.in-Ok.count all.0 all.2 c.if-count-eq0.false;
+      came = all.1;
+      told = ends_after _ _ _ was.grown (c.in-Err-Disk-feed.ensures.stopped (ap Err c.in-Err-Disk-feed.field-0-is));
+    }

@@ -7,7 +7,8 @@ use Rattle.txn_buffer.specs.View.{IsFrontOf}
 use Rattle.txn_ledger.specs.Ledger.{StandsIn}
 use Rattle.txn_run.specs.Above.{KeepsAbove}
 use Rattle.txn_run.specs.Desk.{standing, IsPartOne}
-use Rattle.txn_run.specs.Going.{Reading}
+use Rattle.txn_run.specs.Going.{Stands, Reading}
+use Rattle.txn_run.specs.Told.{Grows}
 use Rattle.txn_run.proofs.program.run_in.Given as goal
 
 abbrev pub invariant-loop-taken : goal.invariant-loop-taken
@@ -18,6 +19,8 @@ invariant-loop-taken g l = record {
   out : 512 ≤ capacity l.out;
   reads : g.I.Source.faults l.fn.source ≤ g.I.Source.faults l.source;
   writes : g.O.Sink.faults l.fn.sink ≤ g.O.Sink.faults l.sink;
+  grown : Grows (g.O.Sink.held l.fn.sink) (g.O.Sink.held l.sink);
+  fresh : l.taken ≡ 0 → Stands l.limits.line l.pending [];
   whole : IsTrue l.desk.topic.whole;
   part : IsPartOne l.limits l.desk.topic;
   name : l.desk.name ≡ l.fn.desk.name;

@@ -1,4 +1,4 @@
-use Rattle.std.proofs.Common.{◌≡◌, ◌∙◌, inl, inr, refl, sym, ap, Err, subst, ℕ, List, Option}
+use Rattle.std.proofs.Common.{◌∙◌, inl, inr, refl, ap, Err, subst}
 use Rattle.std.proofs.KnownBytes.{Keeps-refl}
 use Rattle.txn_model.specs.Replies.{Standing}
 use Rattle.txn_run.specs.Desk.{standing}
@@ -61,3 +61,16 @@ returns-in-Err-clause-answers g c told ms sound =
       not_taken = Keeps-refl _;
       not_put = Keeps-refl _;
     })
+
+pub returns-in-Ok-open-clause-stopped : goal.returns-in-Ok-open-clause-stopped
+returns-in-Ok-open-clause-stopped g c is =
+    inr (
+      c.run_in.ensures.stopped is,
+      λ told.
+          let opened = c.in-Ok-open.ensures.opened in
+          let tied = c.in-Ok-open.ensures.told told in
+          undamaged_here c.args.limits.now c.in-Ok-open.desk.topic opened.1 opened.2 tied.0 c.in-Ok-open.ensures.lawful (g.D.Disk.seen c.args.disk.now) tied.1,
+    )
+
+pub returns-in-Err-clause-stopped : goal.returns-in-Err-clause-stopped
+returns-in-Err-clause-stopped g c is = inl (refl, refl)
