@@ -1,15 +1,17 @@
 -- What a line is told, by what it is.
-use Rattle.std.proofs.Common.{◌≡◌, ℕ, ◌<◌, ◌≤◌, List, [], ◌∷◌, length, Bool, true, false, nat_lt, Option, Some, None, inl, inr, refl, sym, ap, ◌∙◌, subst, arith, if◌then◌else◌}
+use Rattle.std.proofs.Common.{◌≡◌, ℕ, ◌<◌, ◌≤◌, List, [], ◌∷◌, length, true, false, true≢false, nat_lt, Option, Some, None, inl, inr, refl, sym, ap, ◌∙◌, arith}
 use Rattle.std.proofs.lemmas.Bool.Decides.{nat_tests}
 use Rattle.txn_base.specs.declared.limits.Limits.{Limits}
 use Rattle.txn_base.specs.declared.request.Request.{Request}
+use Rattle.txn_base.specs.declared.request.Request.TheVariants as request
 use Rattle.txn_base.specs.declared.reply.Reply.{Reply}
 use Rattle.txn_base.specs.declared.reply.Reply.TheVariants as reply
 use Rattle.txn_base.specs.declared.reply.Refusal.TheVariants as no
 use Rattle.txn_model.specs.Cut.{is_blank}
-use Rattle.txn_model.specs.Replies.{Standing, Kind, too_long, blank, form, Replied, AnswersFrom}
-use Rattle.txn_wire.specs.Lines.{request_of}
+use Rattle.txn_model.specs.Replies.{Standing, too_long, blank, form, Replied, AnswersFrom}
+use Rattle.txn_wire.specs.Lines.{request_of, AsksForSome}
 use Rattle.txn_wire.specs.Short.{is_long}
+use Rattle.txn_run.specs.Desk.{IsAsked}
 use Rattle.txn_run.specs.Kinds.{is_answered, if_answered, asked_of, line_kind}
 use Rattle.txn_run.specs.Told.{MayTell}
 
@@ -18,6 +20,23 @@ lt_true m n h = grind (arith, nat_tests)
 
 lt_false : (m n : ℕ) → n ≤ m → nat_lt m n ≡ false
 lt_false m n h = grind (arith, nat_tests)
+
+-- a form that is answered, of a line that asks for something
+pub asked_here : (r : Request) → is_answered r ≡ true → AsksForSome r → IsAsked r
+asked_here (request.Publish topic None bodies) is some = some
+asked_here (request.Publish topic (Some x) bodies) is some = absurd (true≢false (sym is))
+asked_here (request.Read topic first max) is some = some
+asked_here (request.New timeout) is some = absurd (true≢false (sym is))
+asked_here (request.Add x part) is some = absurd (true≢false (sym is))
+asked_here (request.Ack sub x places) is some = absurd (true≢false (sym is))
+asked_here (request.AckUpTo sub x place) is some = absurd (true≢false (sym is))
+asked_here (request.Commit x) is some = absurd (true≢false (sym is))
+asked_here (request.Abort x) is some = absurd (true≢false (sym is))
+asked_here (request.Status x) is some = absurd (true≢false (sym is))
+asked_here (request.Receive sub max) is some = absurd (true≢false (sym is))
+asked_here (request.Redeliver sub) is some = absurd (true≢false (sym is))
+asked_here request.Tick is some = absurd (true≢false (sym is))
+asked_here request.Stop is some = absurd (true≢false (sym is))
 
 module _ (limits : Limits) (piece : List ℕ) where
   kind_long : limits.line < length piece → line_kind limits piece ≡ too_long

@@ -40,11 +40,8 @@ fn is_answered(request: &Request) -> bool
     ensures { result ≡ is_answered request.now }
 {
     match request {
-        Request::Publish { txn, bodies, .. } => match txn {
-            None => bodies.len() > 0,
-            Some(_) => false,
-        },
-        Request::Read { max, .. } => *max > 0,
+        Request::Publish { txn, .. } => txn.is_none(),
+        Request::Read { .. } => true,
         _ => false,
     }
 }

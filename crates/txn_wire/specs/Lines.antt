@@ -1,5 +1,5 @@
 -- The request that a line is.
-use Rattle.std.specs.Prelude.{◌≡◌, ℕ, List, if◌then◌else◌, Option, Some, None, Result, Ok, Err, option_map, bytes_eq, codes}
+use Rattle.std.specs.Prelude.{◌≡◌, ℕ, ◌≤◌, List, length, if◌then◌else◌, Option, Some, None, Result, Ok, Err, option_map, bytes_eq, codes}
 use Rattle.std.specs.Str.{is_utf8}
 use Rattle.serde_json.specs.Data.{Data}
 use Rattle.serde_json.specs.Read.{read}
@@ -34,6 +34,13 @@ request_of_data d = text_at (codes "do") d >>= λ name. form_of name d
 -- The request of a line: its bytes are UTF-8, and are one value that is a request.
 unfoldable pub request_of : List ℕ → Option Request
 request_of line = if is_utf8 line then read line >>= request_of_data else None
+
+-- A publish has at least one text, and a read or a receive asks for at least one message.
+abbrev pub AsksForSome : Request → Type 0
+AsksForSome (request.Publish topic txn bodies) = 1 ≤ length bodies
+AsksForSome (request.Read topic first max) = 1 ≤ max
+AsksForSome (request.Receive sub max) = 1 ≤ max
+AsksForSome _ = Unit {0}
 
 -- What a function returned is what the definition gives: a value where there is one, `BadLine` where
 -- there is none, unless memory ran out.

@@ -1,6 +1,7 @@
 //! The request of a line.
 ghost use Rattle.serde_json.specs.View.{view};
-ghost use Rattle.txn_wire.specs.Lines.{Gives, form_of, request_of_data, request_of};
+ghost use Rattle.std.specs.Prelude.{IfOk};
+ghost use Rattle.txn_wire.specs.Lines.{Gives, AsksForSome, form_of, request_of_data, request_of};
 
 use crate::error::WireError;
 use crate::forms::{
@@ -12,10 +13,12 @@ use serde_json::Value;
 use std::alloc::Global;
 use txn_base::Request;
 
-/// The request that a line is. `BadLine` exactly where it is none.
+/// The request that a line is: a publish of at least one text, a read or a receive of at least one message, or one of the
+/// other forms. `BadLine` exactly where it is none.
 #[tactic(auto, unfolding(crate::specs::Lines::request_of))]
 pub fn read_request(alloc: Global, line: &[u8]) -> Result<Request, WireError>
-    ensures { Gives (λ r. r) result (request_of line.now) }
+    ensures request { Gives (λ r. r) result (request_of line.now) }
+    ensures some { IfOk result AsksForSome }
 {
     match Value::from_slice(alloc, line) {
         Ok(value) => request_of_value(alloc, &value),
