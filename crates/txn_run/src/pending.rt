@@ -4,7 +4,8 @@ ghost use Rattle.txn_base.specs.Room.{capacity};
 
 use txn_base::Bytes;
 
-/// The piece of a line that has come so far, in room that was taken before. Of a line that is too long nothing is kept.
+/// The piece of a line that has come so far, in room that was taken before. Of a line that is too long its first bytes are
+/// kept until it ends, as many as a line may have, and nothing of what comes behind them.
 #[derive(Debug, Drop)]
 pub struct Pending {
     pub line: Bytes,
