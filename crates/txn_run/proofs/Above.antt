@@ -1,5 +1,5 @@
 -- What a growing topic file stands for.
-use Rattle.std.proofs.Common.{◌≡◌, ℕ, ◌<◌, ◌≤◌, ◌==◌, not, Bool, true, false, cond, List, [], ◌∷◌, ◌++◌, length, refl, sym, ap, ◌∙◌, subst, arith, true≢false}
+use Rattle.std.proofs.Common.{◌≡◌, ℕ, true, false, List, [], ◌∷◌, ◌++◌, refl, sym, ap, subst, arith, true≢false}
 use Rattle.std.proofs.lemmas.Bool.Decides.{nat_tests}
 use Rattle.std.proofs.lemmas.Grind.{flat_map-append}
 use Rattle.txn_base.specs.declared.file_id.FileId.{FileId}
@@ -12,7 +12,6 @@ use Rattle.txn_base.proofs.Unique.{stands_one}
 use Rattle.txn_model.specs.declared.world.World.{World}
 use Rattle.txn_model.specs.Words.{has, list_at, append_at}
 use Rattle.txn_model.specs.Entries.{are_plain}
-use Rattle.txn_model.specs.World.{Extends}
 use Rattle.txn_model.specs.Table.{in_topic, world_with}
 use Rattle.txn_model.specs.Shape.{topic_parts, sub_parts}
 use Rattle.txn_model.specs.Sound.{part_file, ledger_file, RecordsOf, StandsForEntries, IsBareRecord, StandsFor}

@@ -1,5 +1,5 @@
 -- What a topic answers is in the table of replies.
-use Rattle.std.proofs.Common.{◌≡◌, ◌⊎◌, ℕ, ◌+◌, ◌<◌, ◌≤◌, ◌&&◌, not, nat_lt, nat_le, Bool, true, false, List, [], ◌∷◌, ◌++◌, length, map, take, Option, Some, None, IsTrue, inl, inr, refl, sym, ap, ap₂, ◌∙◌, subst, arith, bytes_eq, length-append}
+use Rattle.std.proofs.Common.{◌≡◌, ◌⊎◌, ℕ, ◌+◌, ◌<◌, ◌≤◌, ◌&&◌, not, nat_lt, nat_le, Bool, true, false, List, [], ◌∷◌, ◌++◌, length, map, Option, None, IsTrue, inl, inr, refl, sym, ap, ap₂, ◌∙◌, subst, arith, bytes_eq}
 use Rattle.std.proofs.lemmas.Bool.{and_parts}
 use Rattle.std.proofs.lemmas.Bool.Decides.{nat_tests}
 use Rattle.std.proofs.lemmas.List.{take_all, length-map}
@@ -7,7 +7,7 @@ use Rattle.std.specs.List.{list_all}
 use Rattle.txn_base.specs.declared.file_id.FileId.{FileId}
 use Rattle.txn_model.specs.Sound.{ledger_file}
 use Rattle.txn_base.specs.Names.{is_name_byte, is_topic_name, begins_with_dash}
-use Rattle.txn_base.specs.Content.{settled, Standing as HowItStands}
+use Rattle.txn_base.specs.Content.{Standing as HowItStands}
 use Rattle.txn_base.specs.Decoded.{topic_entry_of, topic_entries}
 use Rattle.txn_base.specs.Frames.{records}
 use Rattle.txn_base.specs.Outside.{Rose}

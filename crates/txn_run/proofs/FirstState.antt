@@ -1,17 +1,13 @@
 -- Where a run begins: what opening keeps, and the first state of the table.
-use Rattle.std.proofs.Common.{◌≡◌, ℕ, ◌==◌, Bool, true, false, cond, List, [], ◌∷◌, ◌++◌, drop, length, refl, sym, ap, ◌∙◌, subst, append-nil, bytes_eq}
+use Rattle.std.proofs.Common.{◌≡◌, ℕ, false, List, [], ◌∷◌, ◌++◌, refl, sym, subst, append-nil}
 use Rattle.txn_base.specs.declared.entry.TopicEntry.{TopicEntry}
-use Rattle.txn_base.specs.declared.entry.AckEntry.{AckEntry}
 use Rattle.txn_base.specs.Disk.{Files, Changes}
-use Rattle.txn_base.specs.Frames.{Batch, Stands}
+use Rattle.txn_base.specs.Frames.{Stands}
 use Rattle.txn_base.specs.Names.{is_sub}
 use Rattle.txn_ledger.specs.Found.{KeepsList}
-use Rattle.txn_model.specs.declared.world.World.{World}
-use Rattle.txn_model.specs.Words.{set_at, nowhere}
-use Rattle.txn_model.specs.World.{no_flights}
-use Rattle.txn_model.specs.Table.{TableState}
+use Rattle.txn_model.specs.Words.{nowhere}
 use Rattle.txn_model.specs.Opening.{names_with, first_state, table_over}
-use Rattle.txn_model.specs.Sound.{ledger_file, StandsForEntries, IsBareRecord}
+use Rattle.txn_model.specs.Sound.{ledger_file}
 use Rattle.txn_run.specs.Above.{StandsAbove, KeepsAbove}
 use Rattle.txn_run.specs.OneTopic.{one_world, one_table}
 use Rattle.txn_run.proofs.OneTopicAnswers.{eq_true, set_same}

@@ -1,5 +1,5 @@
 -- How calls on the disk follow each other: what every image keeps, and the counts of faults.
-use Rattle.std.proofs.Common.{◌≡◌, ◌<◌, ◌≤◌, ◌+◌, ◌-◌, ◌^◌, ℕ, min, List, [], ◌∷◌, subst, sym, refl, arith, ◌∙◌}
+use Rattle.std.proofs.Common.{◌≡◌, ◌≤◌, ℕ, List, subst, refl, arith, ◌∙◌}
 use Rattle.txn_base.specs.Disk.{Files, Since, CountsFaults}
 use Rattle.txn_base.specs.Outside.{Rose}
 use Rattle.txn_base.proofs.Moments.{started, goes_on}

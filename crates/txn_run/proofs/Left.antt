@@ -1,5 +1,5 @@
 -- What a stop leaves is what the table keeps, with the batch in flight or without.
-use Rattle.std.proofs.Common.{◌≡◌, ⊎_elim, ℕ, Bool, true, false, List, [], ◌∷◌, ◌++◌, refl, sym, ap, ◌∙◌, subst}
+use Rattle.std.proofs.Common.{◌≡◌, ⊎_elim, ℕ, Bool, true, false, List, [], ◌∷◌, ◌++◌, refl, ap, ◌∙◌, subst}
 use Rattle.txn_base.specs.declared.entry.TopicEntry.{TopicEntry}
 use Rattle.txn_base.specs.Content.{Standing, settled, in_flight, looked_at, KeptOrNot}
 use Rattle.txn_base.specs.Decoded.{topic_entries}

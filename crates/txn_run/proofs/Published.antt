@@ -1,20 +1,19 @@
 -- What a publish puts into the topic's ledger.
-use Rattle.std.proofs.Common.{◌≡◌, ◌⊎◌, ⊎_elim, ℕ, ◌+◌, ◌<◌, ◌≤◌, ◌||◌, not, nat_lt, Bool, true, false, List, [], ◌∷◌, ◌++◌, length, map, Option, None, All, IsTrue, IsUtf8, Result, Ok, Err, ◌↔◌, take, get_or, inl, inr, refl, sym, ap, ap₂, ◌∙◌, subst, arith, append-nil}
+use Rattle.std.proofs.Common.{◌≡◌, ⊎_elim, ℕ, ◌+◌, ◌<◌, ◌≤◌, ◌||◌, not, nat_lt, Bool, true, false, List, [], ◌∷◌, ◌++◌, length, map, Option, None, All, IsTrue, IsUtf8, Result, Ok, Err, ◌↔◌, take, get_or, refl, sym, ap, ap₂, ◌∙◌, subst, arith, append-nil}
 use Rattle.std.proofs.lemmas.Bool.Decides.{nat_tests}
 use Rattle.std.proofs.lemmas.List.{length-map, map-append}
 use Rattle.std.proofs.lemmas.Grind.{take_at_read}
 use Rattle.std.proofs.lemmas.List.Elements.{All-nil, All-cons, All-head, All-tail}
-use Rattle.std.specs.List.{list_any, list_all}
-use Rattle.txn_base.specs.Bytes.{contents_of, only_bytes}
+use Rattle.std.specs.List.{list_any}
+use Rattle.txn_base.specs.Bytes.{contents_of}
 use Rattle.txn_base.specs.Room.{Roomy}
-use Rattle.txn_base.specs.Content.{LedgerContent, landed, begun, Appends, Backed, KeptOrNot, Standing as HowItStands}
+use Rattle.txn_base.specs.Content.{LedgerContent, Appends, Backed, KeptOrNot, Standing as HowItStands}
 use Rattle.txn_base.specs.Decoded.{topic_entry_of, topic_entries}
 use Rattle.txn_base.specs.Disk.{Files, Elsewhere, Since}
-use Rattle.txn_base.specs.Frames.{Record, Batch, records, Stands}
+use Rattle.txn_base.specs.Frames.{records, Stands}
 use Rattle.txn_base.specs.Limits.{InRange}
 use Rattle.txn_base.specs.Names.{is_topic_name, is_sub}
 use Rattle.txn_base.specs.Outside.{Rose}
-use Rattle.txn_base.specs.Records.{topic_record}
 use Rattle.txn_base.specs.declared.file_id.FileId.{FileId}
 use Rattle.txn_base.specs.declared.limits.Limits.{Limits}
 use Rattle.txn_base.specs.declared.entry.TopicEntry.{TopicEntry}
@@ -29,7 +28,7 @@ use Rattle.txn_model.specs.EarlyRows.{are_too_big}
 use Rattle.txn_model.specs.Answers.{Answers}
 use Rattle.txn_model.specs.Replies.{AnswersFrom, NoneFell, RoseAt}
 use Rattle.txn_model.specs.Sound.{ledger_file, RecordsOf, IsBareRecord}
-use Rattle.txn_run.specs.Above.{StandsAbove, KeepsAbove}
+use Rattle.txn_run.specs.Above.{KeepsAbove}
 use Rattle.txn_run.specs.Desk.{standing, IsPartOne}
 use Rattle.txn_run.specs.OneTopic.{one_table}
 use Rattle.txn_buffer.specs.declared.error.TopicError.{TopicError}

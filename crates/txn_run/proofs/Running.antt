@@ -1,9 +1,9 @@
 -- From the opening to the last table.
-use Rattle.std.proofs.Common.{◌≡◌, ◌≤◌, ℕ, length, All, arith, Result, Ok, Bool, true, false, not, List, [], ◌∷◌, Option, IsTrue, refl, sym, ap, ◌∙◌, subst}
-use Rattle.txn_base.specs.Content.{Standing as HowItStands, KeptOrNot, LedgerContent, Backed}
+use Rattle.std.proofs.Common.{◌≡◌, ◌≤◌, ℕ, length, All, arith, Result, Ok, true, false, not, List, [], ◌∷◌, Option, IsTrue, sym, ap, ◌∙◌, subst}
+use Rattle.txn_base.specs.Content.{KeptOrNot}
 use Rattle.txn_base.specs.Decoded.{topic_entries}
 use Rattle.txn_base.specs.Disk.{Files, Since, Changes}
-use Rattle.txn_base.specs.Frames.{Batch, records, Stands}
+use Rattle.txn_base.specs.Frames.{records, Stands}
 use Rattle.txn_base.specs.Names.{is_topic_name}
 use Rattle.txn_base.specs.declared.file_id.FileId.{FileId}
 use Rattle.txn_base.specs.declared.limits.Limits.{Limits}
@@ -13,7 +13,6 @@ use Rattle.txn_ledger.specs.Found.{KeepsList}
 use Rattle.txn_ledger.specs.Ledger.{StandsIn}
 use Rattle.txn_model.specs.declared.world.World.{World}
 use Rattle.txn_model.specs.Opening.{first_state}
-use Rattle.txn_model.specs.Replies.{Standing}
 use Rattle.txn_model.specs.Sound.{ledger_file}
 use Rattle.txn_model.specs.Table.{TableState}
 use Rattle.txn_model.specs.Topic.{TopicLawful}
@@ -22,7 +21,7 @@ use Rattle.std.proofs.lemmas.List.{take_all}
 use Rattle.txn_model.proofs.Grows.{extends_same}
 use Rattle.txn_run.specs.Above.{StandsAbove, KeepsAbove, IsSoundBefore}
 use Rattle.txn_run.specs.Desk.{standing, IsPartOne}
-use Rattle.txn_run.specs.OneTopic.{one_table, one_world, table_of, flight_of}
+use Rattle.txn_run.specs.OneTopic.{one_table, one_world, table_of}
 use Rattle.txn_run.specs.Run.{Leaves, first_standing, IsUndamaged}
 use Rattle.txn_run.proofs.DeskAnswers.{table_is, front_is}
 use Rattle.txn_run.proofs.FirstState.{opened_keeps, first_table}

@@ -1,5 +1,5 @@
 -- The state of the table that a topic stands for.
-use Rattle.std.specs.Prelude.{Bool, true, false, Some, ◌≡◌, ℕ, ◌≤◌, List, Option, None, IsTrue, length}
+use Rattle.std.specs.Prelude.{Bool, false, Some, ◌≡◌, ℕ, ◌≤◌, List, Option, None, IsTrue, length}
 use Rattle.txn_base.specs.declared.limits.Limits.{Limits}
 use Rattle.txn_base.specs.declared.request.Request.{Request}
 use Rattle.txn_base.specs.declared.request.Request.TheVariants as request

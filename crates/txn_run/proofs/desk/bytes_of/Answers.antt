@@ -1,4 +1,4 @@
-use Rattle.std.proofs.Common.{◌≡◌, ◌≤◌, IsUtf8, All, take, refl, subst, sym, arith, ◌∙◌}
+use Rattle.std.proofs.Common.{IsUtf8, All, subst, ◌∙◌}
 use Rattle.std.proofs.lemmas.List.{take_all}
 use Rattle.std.proofs.lemmas.List.Elements.{All-more}
 use Rattle.txn_run.proofs.Published.{copied_one}

@@ -1,4 +1,4 @@
-use Rattle.std.proofs.Common.{List, ℕ, ◌≡◌, sym, refl}
+use Rattle.std.proofs.Common.{refl}
 use Rattle.txn_run.proofs.Feeding.{going_newline, broken_newline, stopped_newline}
 use Rattle.txn_run.proofs.lines.take_byte.Goals as goal
 

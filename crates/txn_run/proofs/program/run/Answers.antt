@@ -1,4 +1,4 @@
-use Rattle.std.proofs.Common.{◌≡◌, ℕ, List}
+use Rattle.std.proofs.Common.{ℕ, List}
 use Rattle.txn_model.specs.declared.world.World.{World}
 use Rattle.txn_run.specs.Run.{RunOf}
 use Rattle.txn_run.specs.Words.{command_of}

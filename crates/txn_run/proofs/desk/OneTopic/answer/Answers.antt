@@ -1,4 +1,4 @@
-use Rattle.std.proofs.Common.{◌≡◌, ◌∙◌, ap}
+use Rattle.std.proofs.Common.{◌∙◌, ap}
 use Rattle.txn_base.specs.declared.request.Request.TheVariants as request
 use Rattle.txn_run.proofs.DeskAnswers.{for_request}
 use Rattle.txn_run.proofs.desk.OneTopic.answer.Goals as goal

@@ -6,12 +6,10 @@ use Rattle.txn_base.specs.declared.reply.What.TheVariants.{Log}
 use Rattle.txn_model.specs.Replies.{AnswersFrom}
 use Rattle.txn_run.specs.Desk.{standing}
 use Rattle.txn_buffer.specs.View.{TopicView, total_of}
-use Rattle.txn_buffer.specs.declared.error.TopicError.TheVariants as topic
 use Rattle.txn_base.specs.Bytes.{contents_of}
 use Rattle.txn_model.specs.EarlyRows.{are_too_big}
 use Rattle.txn_run.proofs.DeskAnswers.{differs, agrees, still, rise, rose_at_one, told_name, unknown_publish_here, too_big_here, full_here}
 use Rattle.txn_run.proofs.Published.{are_bodies, publish_keeps, published_here, publish_fault_here, ok_not_full, fault_not_full, is_full, count_of}
-use Rattle.txn_run.proofs.OneTopicAnswers.{not_sub}
 use Rattle.txn_run.proofs.desk.OneTopic.publish.Goals as goal
 
 pub returns-then-ne-clause-answers : goal.returns-then-ne-clause-answers

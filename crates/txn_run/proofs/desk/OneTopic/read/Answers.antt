@@ -1,4 +1,4 @@
-use Rattle.std.proofs.Common.{◌≡◌, ◌∙◌, refl, ap, Err}
+use Rattle.std.proofs.Common.{◌∙◌, ap, Err}
 use Rattle.txn_run.proofs.DeskAnswers.{differs, agrees, still, rise, rose_at_one, told_name, unknown_read_here, read_here, read_fault_here}
 use Rattle.txn_run.proofs.desk.OneTopic.read.Goals as goal
 
