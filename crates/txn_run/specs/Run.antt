@@ -55,22 +55,13 @@ abbrev pub IsUnopened : RunStatus → Type 0
 IsUnopened (status.Damaged file entry) = Unit {0}
 IsUnopened status.DiskFault = Unit {0}
 IsUnopened status.NoMemory = Unit {0}
-IsUnopened status.Ok = ⊥
-IsUnopened (status.Usage u) = ⊥
-IsUnopened status.ReadFault = ⊥
-IsUnopened status.WriteFault = ⊥
-IsUnopened status.TooMuch = ⊥
+IsUnopened _ = ⊥
 
 -- The statuses that a run over sound files may have before its first line: a fault of the disk, want of memory.
 abbrev pub IsEarly : RunStatus → Type 0
 IsEarly status.DiskFault = Unit {0}
 IsEarly status.NoMemory = Unit {0}
-IsEarly (status.Damaged file entry) = ⊥
-IsEarly status.Ok = ⊥
-IsEarly (status.Usage u) = ⊥
-IsEarly status.ReadFault = ⊥
-IsEarly status.WriteFault = ⊥
-IsEarly status.TooMuch = ⊥
+IsEarly _ = ⊥
 
 -- The statuses of a run that came to its first line.
 abbrev pub IsRan : RunStatus → Type 0
@@ -79,9 +70,7 @@ IsRan status.ReadFault = Unit {0}
 IsRan status.WriteFault = Unit {0}
 IsRan status.DiskFault = Unit {0}
 IsRan status.TooMuch = Unit {0}
-IsRan (status.Usage u) = ⊥
-IsRan (status.Damaged file entry) = ⊥
-IsRan status.NoMemory = ⊥
+IsRan _ = ⊥
 
 -- Those of a run whose words are a command line.
 abbrev pub IsOpened : RunStatus → Type 0

@@ -9,9 +9,4 @@ abbrev pub ReadsWords : Result (List ℕ) RunStatus → Result (List ℕ) Usage 
 ReadsWords (Ok name) command = command ≡ Ok name
 ReadsWords (Err status.NoMemory) command = Unit {0}
 ReadsWords (Err (status.Usage u)) command = command ≡ Err u
-ReadsWords (Err status.Ok) command = ⊥
-ReadsWords (Err (status.Damaged file entry)) command = ⊥
-ReadsWords (Err status.ReadFault) command = ⊥
-ReadsWords (Err status.WriteFault) command = ⊥
-ReadsWords (Err status.DiskFault) command = ⊥
-ReadsWords (Err status.TooMuch) command = ⊥
+ReadsWords (Err _) command = ⊥
