@@ -1,0 +1,366 @@
+"""What a run of `lines orders` must do, read off docs/LINES.md and docs/FORMAT.md and written apart from the program: JSON,
+the forms of requests, frames, records, lawful lists, and the replies. It takes nothing from the program or its libraries."""
+import math
+import re
+
+TOPIC = "orders"
+LINE, MESSAGE, BATCH = 65_536, 32_768, 64
+READ_MESSAGES, READ_BYTES = 100, 262_144
+DEEPEST = 127
+WORD = 1 << 64
+
+
+class Bad(Exception):
+    """The text is no JSON value, or the bytes are no record."""
+
+
+# ---- JSON. A text is a str, a list a list, an object a dict. A number is an int where it is written without a sign, a
+# fraction or an exponent and lies below 2^64, and a float otherwise.
+
+SPACE = re.compile(r"[ \t\r\n]*")
+NUMBER = re.compile(r"-?(0|[1-9][0-9]*)(\.[0-9]+)?([eE][+-]?[0-9]+)?")
+PIECE = re.compile(r'[^"\\\x00-\x1f]*')
+FOUR = re.compile(r"[0-9a-fA-F]{4}")
+ESCAPES = {'"': '"', "\\": "\\", "/": "/", "b": "\b", "f": "\f", "n": "\n", "r": "\r", "t": "\t"}
+WORDS = {"true": True, "false": False, "null": None}
+
+
+def read_json(text):
+    """The value that a text is."""
+    value, at = read_value(text, SPACE.match(text).end(), DEEPEST)
+    if SPACE.match(text, at).end() != len(text):
+        raise Bad("more behind the value")
+    return value
+
+
+def read_value(text, at, depth):
+    """The value at a place, which may nest so deep, and the place behind it."""
+    first = text[at:at + 1]
+    if first == '"':
+        return read_text(text, at + 1)
+    if first and first in "[{":
+        if depth == 0:
+            raise Bad("nested too deep")
+        return (read_list if first == "[" else read_object)(text, at + 1, depth - 1)
+    for word, value in WORDS.items():
+        if text.startswith(word, at):
+            return value, at + len(word)
+    return read_number(text, at)
+
+
+def read_number(text, at):
+    found = NUMBER.match(text, at)
+    if not found:
+        raise Bad("no value")
+    digits, (_, fraction, exponent) = found.group(), found.groups()
+    is_whole = not (digits.startswith("-") or fraction or exponent) and len(digits) <= 20
+    if is_whole and int(digits) < WORD:
+        return int(digits), found.end()
+    if math.isinf(float(digits)):
+        raise Bad("a number past every float")
+    return float(digits), found.end()
+
+
+def read_unit(text, at):
+    """The four digits of an escape."""
+    found = FOUR.match(text, at)
+    if not found:
+        raise Bad("an escape cut short")
+    return int(found.group(), 16), at + 4
+
+
+def read_escape(text, at):
+    """The character of an escape, of which the backslash was read."""
+    kind = text[at:at + 1]
+    if kind != "u":
+        if kind not in ESCAPES:
+            raise Bad("no such escape")
+        return ESCAPES[kind], at + 1
+    unit, at = read_unit(text, at + 1)
+    if not 0xD800 <= unit < 0xE000:
+        return chr(unit), at
+    if unit >= 0xDC00 or text[at:at + 2] != "\\u":
+        raise Bad("a lone surrogate")
+    low, at = read_unit(text, at + 2)
+    if not 0xDC00 <= low < 0xE000:
+        raise Bad("a lone surrogate")
+    return chr(0x10000 + ((unit - 0xD800) << 10) + (low - 0xDC00)), at
+
+
+def read_text(text, at):
+    pieces = []
+    while True:
+        found = PIECE.match(text, at)
+        pieces.append(found.group())
+        at = found.end()
+        end = text[at:at + 1]
+        if end == '"':
+            return "".join(pieces), at + 1
+        if end != "\\":
+            raise Bad("a text that doesn't end, or a control character")
+        piece, at = read_escape(text, at + 1)
+        pieces.append(piece)
+
+
+def read_items(text, at, close, item):
+    """Items with commas between them, up to the bracket that closes them."""
+    at = SPACE.match(text, at).end()
+    if text[at:at + 1] == close:
+        return at + 1
+    while True:
+        at = SPACE.match(text, item(at)).end()
+        end = text[at:at + 1]
+        if end == close:
+            return at + 1
+        if end != ",":
+            raise Bad("no comma")
+        at = SPACE.match(text, at + 1).end()
+
+
+def read_list(text, at, depth):
+    items = []
+
+    def item(at):
+        value, at = read_value(text, at, depth)
+        items.append(value)
+        return at
+
+    at = read_items(text, at, "]", item)
+    return items, at
+
+
+def read_object(text, at, depth):
+    members = {}
+
+    def item(at):
+        if text[at:at + 1] != '"':
+            raise Bad("a key that is no text")
+        key, at = read_text(text, at + 1)
+        at = SPACE.match(text, at).end()
+        if text[at:at + 1] != ":":
+            raise Bad("no colon")
+        members[key], at = read_value(text, SPACE.match(text, at + 1).end(), depth)
+        return at
+
+    at = read_items(text, at, "}", item)
+    return members, at
+
+
+# ---- Requests.
+
+def is_text(value):
+    return isinstance(value, str)
+
+
+def is_number(value):
+    return type(value) is int
+
+
+def is_positive(value):
+    return is_number(value) and value > 0
+
+
+def is_id(value):
+    return isinstance(value, list) and len(value) == 2 and all(map(is_number, value))
+
+
+def is_data(value):
+    return is_text(value) or (isinstance(value, list) and value != [] and all(map(is_text, value)))
+
+
+def are_places(value):
+    return isinstance(value, list) and all(map(is_number, value))
+
+
+# For each form the keys that it has beside `do`, and those that it may have.
+FORMS = {
+    "new": ({"timeout": is_number}, {}),
+    "add": ({"txn": is_id, "part": is_text}, {}),
+    "publish": ({"topic": is_text, "data": is_data}, {"txn": is_id}),
+    "ack": ({"sub": is_text, "places": are_places}, {"txn": is_id}),
+    "ack_upto": ({"sub": is_text, "place": is_number}, {"txn": is_id}),
+    "commit": ({"txn": is_id}, {}),
+    "abort": ({"txn": is_id}, {}),
+    "status": ({"txn": is_id}, {}),
+    "read": ({"topic": is_text, "from": is_number, "max": is_positive}, {}),
+    "receive": ({"sub": is_text, "max": is_positive}, {}),
+    "redeliver": ({"sub": is_text}, {}),
+    "tick": ({}, {}),
+    "stop": ({}, {}),
+}
+
+
+def request_of(line):
+    """The request that a line is, as an object, or None."""
+    try:
+        found = read_json(line.decode())
+    except (UnicodeDecodeError, Bad):
+        return None
+    if not isinstance(found, dict) or not is_text(found.get("do")) or found["do"] not in FORMS:
+        return None
+    needed, allowed = FORMS[found["do"]]
+    tests = {"do": is_text, **needed, **allowed}
+    fits = all(key in tests and tests[key](value) for key, value in found.items())
+    return found if fits and all(key in found for key in needed) else None
+
+
+# ---- Frames and records of a topic. An entry is its kind, its transaction (16 bytes, or none) and its body.
+
+PLAIN, OPENED, COMMIT, ABORT = 1, 2, 3, 4
+
+
+class Damaged(Exception):
+    """A frame or a record that is in no grammar, or a record that may not stand there."""
+
+    def __init__(self, entry):
+        super().__init__(entry)
+        self.entry = entry
+
+
+def records_of_frame(data, at):
+    """The records of the frame whose gate stands at a place, and the place behind it; None where there is no frame."""
+    size = int.from_bytes(data[at + 1:at + 5], "big")
+    body = data[at + 5:at + 5 + size]
+    if len(data) < at + 5 or len(body) < size:
+        return None
+    records, k = [], 0
+    while k < size:
+        length = int.from_bytes(body[k:k + 2], "big")
+        if k + 2 > size or length < 2 or k + 2 + length > size:
+            return None
+        records.append(body[k + 2:k + 2 + length])
+        k += 2 + length
+    return (records, at + 5 + size) if 1 <= len(records) <= 64 else None
+
+
+def records_of_file(data):
+    """The records of a file, and how long its frames are."""
+    records, at = [], 0
+    while data[at:at + 1] == b"\1":
+        frame = records_of_frame(data, at)
+        if frame is None:
+            raise Damaged(len(records))
+        records += frame[0]
+        at = frame[1]
+    return records, at
+
+
+def is_body(data):
+    if len(data) > MESSAGE:
+        return False
+    try:
+        data.decode()
+        return True
+    except UnicodeDecodeError:
+        return False
+
+
+def entry_of(record):
+    """The entry of a topic's record, or None."""
+    if record[0] != 1:
+        return None
+    kind, rest = record[1], record[2:]
+    if kind == PLAIN:
+        return (kind, None, rest) if is_body(rest) else None
+    if kind == OPENED:
+        return (kind, rest[:16], rest[16:]) if len(rest) >= 16 and is_body(rest[16:]) else None
+    return (kind, rest, b"") if kind in (COMMIT, ABORT) and len(rest) == 16 else None
+
+
+def entries_of(records):
+    """The entries of a topic's records, where they are lawful."""
+    entries, marked = [], set()
+    for record in records:
+        entry = entry_of(record)
+        if entry is None or entry[1] in marked:
+            raise Damaged(len(entries))
+        entries.append(entry)
+        if entry[0] in (COMMIT, ABORT):
+            marked.add(entry[1])
+    return entries
+
+
+def frame_of(records):
+    body = b"".join(len(record).to_bytes(2, "big") + record for record in records)
+    return b"\1" + len(body).to_bytes(4, "big") + body
+
+
+# ---- Replies.
+
+SHORT = {8: "\\b", 9: "\\t", 10: "\\n", 12: "\\f", 13: "\\r", 34: '\\"', 92: "\\\\"}
+TABLE = {code: SHORT.get(code, f"\\u{code:04x}") for code in [*range(32), 34, 92]}
+BAD_LINE, TOO_LONG, TOO_BIG = (f'{{"no":"{word}"}}' for word in ("bad_line", "too_long", "too_big"))
+
+
+def quoted(text):
+    return '"' + text.translate(TABLE) + '"'
+
+
+class Topic:
+    """The one topic of a run: its entries, and the bytes of its ledger."""
+
+    def __init__(self, entries, ledger):
+        self.entries, self.ledger = entries, ledger
+        self.ends = {txn: kind for kind, txn, _ in entries if kind in (COMMIT, ABORT)}
+        undecided = (k for k, (kind, txn, _) in enumerate(entries) if kind == OPENED and txn not in self.ends)
+        self.undecided = next(undecided, None)
+
+    def limit(self):
+        return len(self.entries) if self.undecided is None else self.undecided
+
+    def publish(self, texts):
+        bodies = [text.encode() for text in texts]
+        if len(bodies) > BATCH or max(map(len, bodies)) > MESSAGE:
+            return TOO_BIG
+        place = len(self.entries)
+        self.entries += [(PLAIN, None, body) for body in bodies]
+        self.ledger += frame_of([b"\1\1" + body for body in bodies])
+        return f'{{"at":{place},"count":{len(bodies)},"ok":"publish"}}'
+
+    def read(self, first, most):
+        shown, size, limit = [], 0, self.limit()
+        for place in range(min(first, limit), limit):
+            kind, txn, body = self.entries[place]
+            if kind == PLAIN or (kind == OPENED and self.ends[txn] == COMMIT):
+                size += len(body)
+                if len(shown) == min(most, READ_MESSAGES) or (shown and size > READ_BYTES):
+                    break
+                shown.append(f"[{place},{quoted(body.decode())}]")
+        return f'{{"limit":{limit},"messages":[{",".join(shown)}],"ok":"read"}}'
+
+    def answer(self, line):
+        """The reply to a line, or None to a blank one."""
+        if len(line) > LINE:
+            return TOO_LONG
+        if not line.strip(b" \t\r"):
+            return None
+        request = request_of(line)
+        if request is None or request["do"] not in ("publish", "read") or "txn" in request:
+            return BAD_LINE
+        if request["topic"] != TOPIC:
+            return f'{{"name":{quoted(request["topic"])},"no":"unknown_part"}}'
+        if request["do"] == "read":
+            return self.read(request["from"], request["max"])
+        data = request["data"]
+        return self.publish([data] if is_text(data) else data)
+
+
+def lines_of(given):
+    """The lines of an input. A last piece without a newline is one."""
+    pieces = given.split(b"\n")
+    return pieces if pieces[-1] else pieces[:-1]
+
+
+def run(ledger, given):
+    """What a run over this ledger and this input does: its status, the lines that it was given with what is told of each,
+    what it says on standard error, and the ledger that it leaves. It tells nothing over a damaged ledger."""
+    try:
+        records, end = records_of_file(ledger)
+    except Damaged as damage:
+        return 2, [], f"damaged p01-r0000000002 {damage.entry}\n", ledger
+    try:
+        topic = Topic(entries_of(records), ledger[:end])
+    except Damaged as damage:
+        return 2, [], f"damaged p01-r0000000002 {damage.entry}\n", ledger[:end]
+    told = [(line, topic.answer(line)) for line in lines_of(given)]
+    return 0, told, "", topic.ledger
