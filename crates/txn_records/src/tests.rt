@@ -66,6 +66,7 @@ fn records_in_the_grammar_come_back(rt: HostRuntime) {
     let alloc = rt.alloc();
     for bytes in [
         &b"\x01\x01a"[..],
+        b"\x01\x02a/b",
         b"\x01\x02orders/billing",
         b"\x01\x02a/b.c_d-e",
     ] {
@@ -74,6 +75,8 @@ fn records_in_the_grammar_come_back(rt: HostRuntime) {
     for bytes in [
         &b"\x01\x02\0\0\0\0\0\0\0\0\0\0\0\0\0\0\0\x07\0\0\0\x3e"[..],
         b"\x01\x03\xff\xff\xff\xff\xff\xff\xff\xff\xff\xff\xff\xff\xff\xff\xff\xff",
+        b"\x01\x04\0\0\0\0\0\0\0\0\0\0\0\0\0\0\0\x01",
+        b"\x01\x05\0\0\0\0\0\0\0\0\0\0\0\0\0\0\0\x01",
         b"\x01\x06\0\0\0\0\0\0\0\x01\0\0\0\0\0\0\0\0",
     ] {
         assert!(rt; is_same(coord_again(alloc, bytes), bytes), "{bytes:?}");
@@ -83,6 +86,7 @@ fn records_in_the_grammar_come_back(rt: HostRuntime) {
         b"\x01\x01\xc3\xa9",
         b"\x01\x02\0\0\0\0\0\0\0\0\0\0\0\0\0\0\0\0",
         b"\x01\x03\0\0\0\0\0\0\0\0\0\0\0\0\0\0\0\x02",
+        b"\x01\x04\0\0\0\0\0\0\0\0\0\0\0\0\0\0\0\x02",
     ] {
         assert!(rt; is_same(topic_again(alloc, bytes), bytes), "{bytes:?}");
     }
@@ -92,6 +96,7 @@ fn records_in_the_grammar_come_back(rt: HostRuntime) {
         b"\x01\x03\0\0\0\0\0\0\0\0\0\0\0\0\0\0\0\x01\0\x02\0\0\0\0\0\0\0\x01\0\0\0\0\0\0\0\x02",
         b"\x01\x04\0\0\0\0\0\0\0\0\0\0\0\0\0\0\0\x01\xff\xff\xff\xff\xff\xff\xff\xff",
         b"\x01\x05\0\0\0\0\0\0\0\0\0\0\0\0\0\0\0\x01",
+        b"\x01\x06\0\0\0\0\0\0\0\0\0\0\0\0\0\0\0\x01",
     ] {
         assert!(rt; is_same(ack_again(alloc, bytes), bytes), "{bytes:?}");
     }
@@ -110,6 +115,9 @@ fn others_are_refused(rt: HostRuntime) {
         b"\x01\x01a/b",
         b"\x01\x02a",
         b"\x01\x02a/b/c",
+        b"\x01\x02a/-b",
+        b"\x01\x02a/",
+        b"\x01\x02/b",
         b"\x01\x01\xff",
     ] {
         assert!(rt; name_again(alloc, bytes).is_none(), "{bytes:?}");
@@ -134,7 +142,10 @@ fn others_are_refused(rt: HostRuntime) {
     }
     for bytes in [
         &b"\x01\x01\0\0"[..],
+        b"\x02\x02\0\0\0\0\0\0\0\0",
+        b"\x01\x07\0\0\0\0\0\0\0\0\0\0\0\0\0\0\0\x01",
         b"\x01\x01\0\x02\0\0\0\0\0\0\0\x01\0\0\0\0\0\0\0\x01",
+        b"\x01\x01\0\x02\0\0\0\0\0\0\0\x02\0\0\0\0\0\0\0\x01",
         b"\x01\x01\0\x02\0\0\0\0\0\0\0\x01",
         b"\x01\x02\0\0\0\0\0\0\0\0\0",
     ] {
@@ -142,9 +153,9 @@ fn others_are_refused(rt: HostRuntime) {
     }
 }
 
-/// A record of so many places, from 0 on.
-fn places_record(alloc: Global, count: u16) -> Result<Bytes, AllocError> {
-    let mut out = Bytes::from_slice(alloc, &[1, 1])?;
+/// A record with this front and so many places, from 0 on.
+fn places_record(alloc: Global, front: &[u8], count: u16) -> Result<Bytes, AllocError> {
+    let mut out = Bytes::from_slice(alloc, front)?;
     out.append(&count.to_be_bytes())?;
     for place in 0..count {
         out.append(&(place as u64).to_be_bytes())?;
@@ -191,13 +202,35 @@ fn snapshot_again(alloc: Global, batch: &[Bytes]) -> bool {
     same
 }
 
+/// A record with this front and so many letters.
+fn letters_record(alloc: Global, front: &[u8], count: usize) -> Result<Bytes, AllocError> {
+    let letters = vec![in alloc; b'a'; count]?;
+    let mut out = Bytes::from_slice(alloc, front)?;
+    out.append(&letters)?;
+    Ok(out)
+}
+
+#[test]
+fn the_longest_names_come_back(rt: HostRuntime) -> Result<(), AllocError> {
+    let alloc = rt.alloc();
+    for front in [&b"\x01\x01"[..], b"\x01\x02orders/"] {
+        let most = letters_record(alloc, front, 100)?;
+        assert!(rt; is_same(name_again(alloc, most.as_slice()), most.as_slice()));
+        let more = letters_record(alloc, front, 101)?;
+        assert!(rt; name_again(alloc, more.as_slice()).is_none());
+    }
+    Ok(())
+}
+
 #[test]
 fn the_longest_records_come_back(rt: HostRuntime) -> Result<(), AllocError> {
     let alloc = rt.alloc();
-    let most = places_record(alloc, 256)?;
-    assert!(rt; is_same(ack_again(alloc, most.as_slice()), most.as_slice()));
-    let more = places_record(alloc, 257)?;
-    assert!(rt; ack_again(alloc, more.as_slice()).is_none());
+    for front in [&[1, 1][..], b"\x01\x03\0\0\0\0\0\0\0\0\0\0\0\0\0\0\0\x07"] {
+        let most = places_record(alloc, front, 256)?;
+        assert!(rt; is_same(ack_again(alloc, most.as_slice()), most.as_slice()));
+        let more = places_record(alloc, front, 257)?;
+        assert!(rt; ack_again(alloc, more.as_slice()).is_none());
+    }
     let body = vec![in alloc; b'a'; 32_768]?;
     let longest = opened_record(alloc, FIRST, &body)?;
     assert!(rt; is_same(topic_again(alloc, longest.as_slice()), longest.as_slice()));
