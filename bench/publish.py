@@ -1,6 +1,7 @@
 #!/usr/bin/env python3
 """Durable publishes of 100-byte messages by one client that waits for each reply through a pipe, against a floor that makes
-the five calls of an append alone. Ten rounds of 500 lines each, the two by turns; the median of the rounds' ratios.
+the five calls of an append alone, with frames of the same size. One message a publish, and 64 in one batch. Fifty rounds of
+100 lines each, the two by turns; the median of the rounds' ratios.
 Usage: publish.py [PROGRAM [FOLDER]]   (PROGRAM as `rt run` left it, unless another is named; the disk of FOLDER is measured)"""
 import os
 import statistics
@@ -11,37 +12,64 @@ import time
 
 HERE = os.path.dirname(os.path.abspath(__file__))
 PROGRAM = os.path.abspath(sys.argv[1]) if len(sys.argv) > 1 else f"{HERE}/../crates/pulsar_txn/out/pulsar_txn"
-LINES, ROUNDS = 500, 10
-LINE = b'{"do":"publish","topic":"orders","data":"' + b"x" * 100 + b'"}\n'
+LINES, ROUNDS, SIZE = 100, 50, 100
 
 
-def seconds(command):
+def line_of(messages):
+    data = [b'"' + b"x" * SIZE + b'"'] * messages
+    text = data[0] if messages == 1 else b"[" + b",".join(data) + b"]"
+    return b'{"do":"publish","topic":"orders","data":' + text + b"}\n"
+
+
+def frame_size(messages):
+    """A head of 5 bytes, and for each record a length of 2 bytes, and a version and a kind."""
+    return 5 + messages * (2 + 2 + SIZE)
+
+
+def ask(program, line):
+    """Writes a line and waits for its reply, which it takes in one call where it has come."""
+    os.write(program.stdin.fileno(), line)
+    reply = b""
+    while not reply.endswith(b"\n"):
+        piece = os.read(program.stdout.fileno(), 65536)
+        assert piece, f"no more replies behind {reply!r}"
+        reply += piece
+    assert reply.endswith(b'"ok":"publish"}\n'), reply
+
+
+def seconds(command, line):
     program = subprocess.Popen(command, stdin=subprocess.PIPE, stdout=subprocess.PIPE, bufsize=0)
-    program.stdin.write(LINE)
-    program.stdout.readline()
+    ask(program, line)
     begin = time.perf_counter()
     for _ in range(LINES):
-        program.stdin.write(LINE)
-        assert program.stdout.readline().endswith(b'"ok":"publish"}\n')
+        ask(program, line)
     end = time.perf_counter()
     program.stdin.close()
     assert program.wait() == 0
     return end - begin
 
 
+def row(top, floor, messages):
+    line, size = line_of(messages), str(frame_size(messages))
+    ratios, ours, theirs = [], [], []
+    for k in range(ROUNDS):
+        pair = [("floor", [floor, f"{top}/floor-{messages}-{k}", size]), ("program", [PROGRAM, f"{top}/data-{messages}-{k}", "lines", "orders"])]
+        took = {name: seconds(command, line) for name, command in (pair if k % 2 else pair[::-1])}
+        ours.append(LINES / took["program"])
+        theirs.append(LINES / took["floor"])
+        ratios.append(took["floor"] / took["program"])
+        print(f"{messages} a publish, round {k + 1}: program {ours[-1]:.0f} publishes a second, floor {theirs[-1]:.0f}, ratio {ratios[-1]:.2f}", flush=True)
+    quarter, _, three_quarters = statistics.quantiles(ratios, n=4)
+    print(f"{messages} a publish, median: program {statistics.median(ours):.0f} publishes a second, floor {statistics.median(theirs):.0f}")
+    print(f"{messages} a publish, ratios: median {statistics.median(ratios):.2f}, half of them from {quarter:.2f} to {three_quarters:.2f}, all from {min(ratios):.2f} to {max(ratios):.2f}", flush=True)
+
+
 def main():
     with tempfile.TemporaryDirectory(dir=sys.argv[2] if len(sys.argv) > 2 else None) as top:
         floor = f"{top}/floor"
         subprocess.run(["gcc", "-O2", "-o", floor, f"{HERE}/floor.c"], check=True)
-        ratios, ours, theirs = [], [], []
-        for k in range(ROUNDS):
-            pair = [("floor", [floor, f"{top}/floor-{k}"]), ("program", [PROGRAM, f"{top}/data-{k}", "lines", "orders"])]
-            took = {name: seconds(command) for name, command in (pair if k % 2 else pair[::-1])}
-            ours.append(LINES / took["program"])
-            theirs.append(LINES / took["floor"])
-            ratios.append(took["floor"] / took["program"])
-            print(f"round {k + 1}: program {ours[-1]:.0f} a second, floor {theirs[-1]:.0f}, ratio {ratios[-1]:.2f}", flush=True)
-        print(f"median: program {statistics.median(ours):.0f} a second, floor {statistics.median(theirs):.0f}; median ratio {statistics.median(ratios):.2f} (from {min(ratios):.2f} to {max(ratios):.2f})")
+        for messages in (1, 64):
+            row(top, floor, messages)
 
 
 main()
