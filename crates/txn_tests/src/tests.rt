@@ -5,6 +5,7 @@ mod crashes;
 mod damage;
 mod faults;
 mod ledgers;
+mod limits;
 mod lines;
 mod odd_json;
 mod plain;

@@ -118,3 +118,36 @@ fn undriven_transaction_holds_the_window(rt: HostRuntime) -> Result<(), AllocErr
     assert_eq!(rt; disk.file_bytes(LOG).len(), 58 + 25 + 33);
     Ok(())
 }
+
+/// What is begun by the first three calls over an empty log, where the window is of two transactions.
+fn three_begun<D: Disk, L: ledger::Ledger>(
+    alloc: Global,
+    blank: Blank,
+    disk: &mut D,
+) -> Option<(Begun, Begun, Begun)>
+    requires name { blank.name ≡ L.name }
+    requires parts { blank.parts ≡ L.parts }
+    requires one { L.parts ≡ 1 }
+{
+    let mut steps = Steps::<L>::new(blank);
+    let mut coordinator = opened(alloc, disk, &with_window(2))?;
+    coordinator.mend_step(disk, &mut steps).ok()?;
+    let first = begin(&mut coordinator, disk);
+    let second = begin(&mut coordinator, disk);
+    let third = begin(&mut coordinator, disk);
+    Some((first, second, third))
+}
+
+#[test]
+fn window_is_exact(rt: HostRuntime) -> Result<(), AllocError> {
+    let mut disk = MemDisk::new(rt.alloc(), &[])?;
+    let first = Some(Ok(FIRST));
+    let second = Some(Ok(TxnId { most: 0, least: 1 }));
+    let full = Some(Err(CoordError::Full {
+        what: What::Transactions,
+        count: 2,
+    }));
+    let told = three_begun::<MemDisk, Brand>(rt.alloc(), Blank::new(1), &mut disk);
+    assert_eq!(rt; told, Some((first, second, full)));
+    Ok(())
+}

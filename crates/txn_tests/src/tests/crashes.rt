@@ -96,9 +96,9 @@ fn crash_after_an_answer_keeps_the_batch(rt: HostRuntime) -> Result<(), AllocErr
     Ok(())
 }
 
-// The same for a second batch, of two messages: the first stands whatever comes.
+// The same for a second batch, of two messages. What stood before it stands whatever comes.
 #[test]
-fn stop_leaves_what_stood_before(rt: HostRuntime) -> Result<(), AllocError> {
+fn stop_inside_a_batch_leaves_all_or_none(rt: HostRuntime) -> Result<(), AllocError> {
     let alloc = rt.alloc();
     let both = "{\"limit\":3,\"messages\":[[0,\"a\"],[1,\"b\"],[2,\"c\"]],\"ok\":\"read\"}\n";
     let input = r#"{"do":"publish","topic":"orders","data":["b","c"]}"#;

@@ -55,6 +55,13 @@ fn records_are_those_of_the_frames(rt: HostRuntime) -> Result<(), AllocError> {
     assert_eq!(rt; disk.file_bytes(TOPIC), &bytes[..23]);
     let mut disk = disk_with(alloc, &[], &[])?;
     assert_eq!(rt; shown(alloc, &mut disk, 0)?.as_str(), "Ok((0, None))");
+
+    // The catalog of the one topic `orders`.
+    let mut disk = disk_with(alloc, b"\x01\0\0\0\x0a\0\x08\x01\x01orders", &[])?;
+    assert_eq!(rt;
+        shown(alloc, &mut disk, 0)?.as_str(),
+        "Ok((1, Some(Ok(Bytes { items: [1, 1, 111, 114, 100, 101, 114, 115] }))))"
+    );
     Ok(())
 }
 

@@ -81,26 +81,6 @@ fn longer_lines_are_too_long(rt: HostRuntime) -> Result<(), AllocError> {
     Ok(())
 }
 
-// The line of 44 bytes, with spaces to 65,536 bytes and to one more.
-#[test]
-fn longest_line_is_answered(rt: HostRuntime) -> Result<(), AllocError> {
-    let alloc = rt.alloc();
-    let line = r#"{"do":"publish","topic":"orders","data":"a"}"#;
-    let spaces = " ".repeat(alloc, 65_536 - 44)?;
-    let limits = Limits::standard();
-    let longest = format!(in alloc; "{line}{spaces}\n")?;
-    assert_eq!(rt;
-        run_empty(alloc, &limits, longest.as_str())?.shown(),
-        ("Ok", "{\"at\":0,\"count\":1,\"ok\":\"publish\"}\n")
-    );
-    let longer = format!(in alloc; "{line} {spaces}\n")?;
-    assert_eq!(rt;
-        run_empty(alloc, &limits, longer.as_str())?.shown(),
-        ("Ok", "{\"no\":\"too_long\"}\n")
-    );
-    Ok(())
-}
-
 // However the source cuts the input, and however few bytes the sink takes.
 #[test]
 fn pieces_of_lines_are_joined(rt: HostRuntime) -> Result<(), AllocError> {

@@ -61,10 +61,12 @@ const ANSWERED: [(&str, &str); 10] = [
 ];
 
 // Lines that are no request of these forms.
-const REFUSED: [&str; 43] = [
+const REFUSED: [&str; 44] = [
     // Double keys of which the last has a bad value.
     r#"{"do":"read","do":"stop","topic":"orders","from":0,"max":1}"#,
     r#"{"do":"read","topic":"orders","from":0,"from":1.0,"max":1}"#,
+    // A number past every float, though another stands for it.
+    r#"{"do":"read","topic":"orders","from":1e309,"from":0,"max":1}"#,
     // Lone surrogates, and control characters that aren't escaped.
     r#"{"do":"publish","topic":"orders","data":"\ud800"}"#,
     r#"{"do":"publish","topic":"orders","data":"\udc00\ud800"}"#,
