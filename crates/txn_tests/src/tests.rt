@@ -7,10 +7,13 @@ mod faults;
 mod ledgers;
 mod limits;
 mod lines;
+mod logs;
 mod odd_json;
 mod plain;
 mod refusals;
 mod statuses;
+mod steps;
+mod topics;
 
 /// The file of one batch, of the message "a".
 pub const A: &[u8] = &[1, 0, 0, 0, 5, 0, 3, 1, 1, b'a'];
