@@ -1,0 +1,121 @@
+-- What the images of an append stand for.
+use Rattle.std.proofs.Common.{◌≡◌, ⊎_elim, ℕ, ◌+◌, ◌<◌, true, List, [], ◌∷◌, ◌++◌, length, refl, sym, subst}
+use Rattle.std.proofs.Math.ListN.{get_or}
+use Rattle.std.proofs.lemmas.Grind.{flat_map-append}
+use Rattle.txn_base.specs.declared.entry.CoordEntry.{CoordEntry}
+use Rattle.txn_base.specs.declared.entry.TopicEntry.{TopicEntry}
+use Rattle.txn_base.specs.declared.file_id.FileId.{FileId}
+use Rattle.txn_base.specs.Content.{Appends}
+use Rattle.txn_base.specs.Decoded.{coord_entries, topic_entries}
+use Rattle.txn_base.specs.Disk.{Files, Elsewhere}
+use Rattle.txn_base.specs.Frames.{Record, Batch as FrameBatch, records, Stands}
+use Rattle.txn_base.specs.Records.{IsCoordEntry, IsCoordRecord}
+use Rattle.txn_base.proofs.Unique.{stands_one}
+use Rattle.txn_ledger.specs.Ledger.{IsFile, StandsIn}
+use Rattle.txn_model.specs.declared.world.World.{World}
+use Rattle.txn_model.specs.Allowed.{IsAllowed}
+use Rattle.txn_model.specs.Shape.{topic_parts}
+use Rattle.txn_model.specs.Sound.{ledger_file, RecordsOf, StandsForEntries, IsBareRecord, StandsFor}
+use Rattle.txn_model.specs.Table.{Batch, in_coord, in_topic, world_with, flights_with}
+use Rattle.txn_model.specs.Words.{has, list_at}
+use Rattle.txn_model.specs.World.{Lawful, Extends, no_flights}
+use Rattle.txn_model.proofs.AppendStands.{coord_append_stands, coord_change_stands, topic_append_stands, topic_change_stands}
+use Rattle.txn_model.proofs.Chosen.{lawful_choice}
+use Rattle.txn_model.proofs.FlightsOver.{batch_choice}
+use Rattle.txn_model.proofs.Grows.{extends_both, batch_grows}
+use Rattle.txn_model.proofs.OneWorld.{records_behind}
+use Rattle.txn_buffer.specs.View.{TopicView, batch_of}
+use Rattle.txn_coordinator.specs.View.{coord_batch}
+use Rattle.txn_engine.specs.Above.{StandsAbove, KeepsAbove}
+use Rattle.txn_engine.specs.Kept.{IsEngine}
+use Rattle.txn_engine.specs.Table.{lists_from, world_of}
+use Rattle.txn_engine.specs.View.{EngineView, IsWhole, IsBacked}
+use Rattle.txn_engine.proofs.Lists.{list_in, topic_at, at_index}
+use Rattle.txn_engine.proofs.Whole.{settled_topics}
+use Rattle.txn_engine.proofs.Worlds.{AllStand, world_here, coord_backed, topics_backed, some_topic, topic_part}
+
+-- ---- The same bytes, or more behind them.
+
+module _ {E : Type 0} (is : Record → E → Type 0) (bytes bytes' : List ℕ) (batches : List FrameBatch) (es : List E) (stands : StandsForEntries is bytes es) (before : Stands bytes batches) where
+  old_records : RecordsOf is (records batches) es
+  old_records = subst (λ (bs : List FrameBatch). RecordsOf is (records bs) es) (stands_one bytes stands.batches batches stands.stands before) stands.each
+
+  pub still_stands : Stands bytes' batches → StandsForEntries is bytes' es
+  still_stands after = record { batches = batches; stands = after; each = old_records }
+
+  pub more_stands : (more : List FrameBatch) (fs : List E) → Stands bytes' (batches ++ more) → RecordsOf is (records more) fs → StandsForEntries is bytes' (es ++ fs)
+  more_stands more fs after each = record {
+    batches = batches ++ more;
+    stands = after;
+    each = subst (λ (rs : List Record). RecordsOf is rs (es ++ fs)) (sym (flat_map-append (λ (b : FrameBatch). b) batches more)) (records_behind is (records batches) (records more) es fs old_records each);
+  }
+
+-- ---- An append by an engine whose parts are whole.
+
+module _ (v : EngineView) (is : IsEngine v) (whole : IsWhole v) (image : Files → Type 0) (backed : IsBacked image v) where
+  -- the world of an image is that of the ledgers
+  pub above_here : (floor : World) (d : Files) → image d → StandsAbove v.names floor d → StandsFor v.names d (world_of v) × Lawful (world_of v) × Extends floor (world_of v)
+  above_here floor d at above =
+      let same : above.world ≡ world_of v =
+      world_here v is d (coord_backed v is whole image backed d at) (topics_backed 1 v.topics (settled_topics v is whole) image backed.topics d at) above.world above.stands in
+      (subst (StandsFor v.names d) same above.stands, subst Lawful same above.lawful, subst (Extends floor) same above.extends)
+
+  with_batch : (floor : World) (c : Files) (b : Batch) → Lawful (world_of v) → Extends floor (world_of v) → IsAllowed b (world_of v) → StandsFor v.names c (world_with b (world_of v)) → StandsAbove v.names floor c
+  with_batch floor c b lawful extends allowed stands = record {
+    world = world_with b (world_of v);
+    stands = stands;
+    lawful = lawful_choice (world_of v) (world_with b (world_of v)) (flights_with b no_flights) (batch_choice b (world_of v)) lawful allowed;
+    extends = extends_both floor (world_of v) (world_with b (world_of v)) extends (batch_grows b (world_of v));
+  }
+
+  without : (floor : World) (c : Files) → Lawful (world_of v) → Extends floor (world_of v) → StandsFor v.names c (world_of v) → StandsAbove v.names floor c
+  without floor c lawful extends stands = record { world = world_of v; stands = stands; lawful = lawful; extends = extends }
+
+  -- an entry of the coordinator
+  module _ (e : CoordEntry) (fits : IsCoordEntry e) (allowed : Lawful (world_of v) → IsAllowed (in_coord e) (world_of v)) where
+    pub coord_above : (d c : Files) → image d → Appends IsFile StandsIn v.coord.content (coord_batch e) d c → KeepsAbove v.names d c
+    coord_above d c at step floor above =
+        let found = above_here floor d at above in
+        let elsewhere : Elsewhere (ledger_file 0) d c = subst (λ (f : FileId). Elsewhere f d c) is.coord.key step.others in
+        let before : Stands (d (ledger_file 0)) v.coord.content.batches = subst (λ (f : FileId). Stands (d f) v.coord.content.batches) is.coord.key (coord_backed v is whole image backed d at) in
+        ⊎_elim
+        (λ none.
+        without floor c found.1 found.2
+        (coord_change_stands v.names d c (world_of v) found.0 elsewhere
+        (still_stands IsCoordRecord (d (ledger_file 0)) (c (ledger_file 0)) v.coord.content.batches (coord_entries v.coord.content.batches) found.0.coord before (subst (λ (f : FileId). Stands (c f) v.coord.content.batches) is.coord.key none))))
+        (λ more.
+        with_batch floor c (in_coord e) found.1 found.2 (allowed found.1)
+        (coord_append_stands v.names d c (world_of v) found.0 e elsewhere
+        (more_stands IsCoordRecord (d (ledger_file 0)) (c (ledger_file 0)) v.coord.content.batches (coord_entries v.coord.content.batches) found.0.coord before (coord_batch e ∷ []) (e ∷ [])
+        (subst (λ (f : FileId). Stands (c f) (v.coord.content.batches ++ coord_batch e ∷ [])) is.coord.key more) (record { bytes_are = refl; fits = fits }, tt))))
+        step.here
+
+  -- entries of a topic
+  module _ (j : ℕ) (below : j < length v.topics) (es : List TopicEntry) (each : RecordsOf IsBareRecord (records (batch_of es ∷ [])) es) (allowed : Lawful (world_of v) → IsAllowed (in_topic (1 + j) es) (world_of v)) where
+    abbrev topic : TopicView
+    topic = get_or v.topics j (some_topic v)
+
+    key : topic.content.key ≡ ledger_file (1 + j)
+    key = (topic_at v.limits 1 v.topics j (some_topic v) (1 + j) refl below is.topics).key
+
+    pub topic_above : (d c : Files) → image d → Appends IsFile StandsIn topic.content (batch_of es) d c → KeepsAbove v.names d c
+    topic_above d c at step floor above =
+        let found = above_here floor d at above in
+        let elsewhere : Elsewhere (ledger_file (1 + j)) d c = subst (λ (f : FileId). Elsewhere f d c) key step.others in
+        let all : AllStand d v.topics = topics_backed 1 v.topics (settled_topics v is whole) image backed.topics d at in
+        let before : Stands (d (ledger_file (1 + j))) topic.content.batches =
+        subst (λ (f : FileId). Stands (d f) topic.content.batches) key (at_index (λ t. StandsIn t.content.key d t.content.batches) v.topics j (some_topic v) below all) in
+        let named : has (topic_parts v.names) (1 + j) ≡ true = topic_part v is j below in
+        let list : list_at (lists_from 1 v.topics) (1 + j) ≡ topic_entries topic.content.batches = list_in 1 v.topics j (some_topic v) (1 + j) refl below in
+        let old : StandsForEntries IsBareRecord (d (ledger_file (1 + j))) (list_at (lists_from 1 v.topics) (1 + j)) = found.0.topics (1 + j) named in
+        ⊎_elim
+        (λ none.
+        without floor c found.1 found.2
+        (topic_change_stands v.names d c (world_of v) found.0 (1 + j) named elsewhere
+        (still_stands IsBareRecord (d (ledger_file (1 + j))) (c (ledger_file (1 + j))) topic.content.batches (list_at (lists_from 1 v.topics) (1 + j)) old before (subst (λ (f : FileId). Stands (c f) topic.content.batches) key none))))
+        (λ more.
+        with_batch floor c (in_topic (1 + j) es) found.1 found.2 (allowed found.1)
+        (topic_append_stands v.names d c (world_of v) found.0 (1 + j) es named elsewhere
+        (more_stands IsBareRecord (d (ledger_file (1 + j))) (c (ledger_file (1 + j))) topic.content.batches (list_at (lists_from 1 v.topics) (1 + j)) old before (batch_of es ∷ []) es
+        (subst (λ (f : FileId). Stands (c f) (topic.content.batches ++ batch_of es ∷ [])) key more) each)))
+        step.here

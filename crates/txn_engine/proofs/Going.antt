@@ -1,0 +1,204 @@
+-- How an engine goes on through a call of one of its parts.
+use Rattle.std.proofs.Common.{◌≡◌, ◌⊎◌, ⊎_elim, inl, inr, ℕ, zero, suc, ◌+◌, ◌<◌, ◌≤◌, List, [], ◌∷◌, length, All, IsTrue, refl, sym, ap, ◌∙◌, subst, arith}
+use Rattle.std.proofs.Math.ListN.{get_or}
+use Rattle.std.proofs.lemmas.List.Elements.{All-head, All-tail, All-cons, All-nil}
+use Rattle.txn_base.specs.declared.entry.CoordEntry.{CoordEntry}
+use Rattle.txn_base.specs.declared.entry.TopicEntry.{TopicEntry}
+use Rattle.txn_base.specs.declared.file_id.FileId.{FileId}
+use Rattle.txn_base.specs.declared.limits.Limits.{Limits}
+use Rattle.txn_base.specs.Content.{LedgerContent, KeptOrNot, Appends, Backed}
+use Rattle.txn_base.specs.Disk.{Files, Since, CountsFaults}
+use Rattle.txn_base.specs.Frames.{Batch as FrameBatch, records, Stands}
+use Rattle.txn_base.specs.Outside.{Rose}
+use Rattle.txn_base.specs.Records.{IsCoordEntry}
+use Rattle.txn_base.proofs.Moments.{weaker, goes_on, started}
+use Rattle.txn_ledger.specs.Ledger.{IsFile, StandsIn}
+use Rattle.txn_model.specs.Allowed.{IsAllowed}
+use Rattle.txn_model.specs.Sound.{ledger_file, RecordsOf, IsBareRecord}
+use Rattle.txn_model.specs.Table.{in_coord, in_topic}
+use Rattle.txn_model.specs.World.{Lawful}
+use Rattle.txn_buffer.specs.View as topic
+use Rattle.txn_buffer.specs.View.{TopicView, batch_of}
+use Rattle.txn_coordinator.specs.View as coordinator
+use Rattle.txn_coordinator.specs.View.{CoordView, coord_batch}
+use Rattle.txn_engine.specs.Above.{StandsAbove, KeepsAbove, KeepsAboveIf}
+use Rattle.txn_engine.specs.Kept.{AreTopics, IsEngine}
+use Rattle.txn_engine.specs.Table.{world_of}
+use Rattle.txn_engine.specs.Told.{CountsWithin, Goes}
+use Rattle.txn_engine.specs.View.{EngineView, IsWhole, IsTied, IsBacked, replaced}
+use Rattle.txn_engine.proofs.Above.{coord_above, topic_above}
+use Rattle.txn_engine.proofs.Lists.{at_index, all_replaced}
+use Rattle.txn_engine.proofs.Worlds.{some_topic}
+
+-- ---- Counts.
+
+pub counts_still : (n f : ℕ) (fs : ℕ → ℕ) (X : Type 0) → (X → ⊥) → CountsWithin n f f fs fs X
+counts_still n f fs X none = record { later = omega arith; parts_later = λ p. omega arith; failed = λ x. absurd (none x); others = λ p past most. refl }
+
+pub counts_of : (n part f g : ℕ) (fs gs : ℕ → ℕ) (X Y : Type 0) → part ≤ n → (Y → X) → CountsFaults part f g fs gs X → CountsWithin n f g fs gs Y
+counts_of n part f g fs gs X Y within means h = record {
+  later = h.later;
+  parts_later = h.parts_later;
+  failed = λ y. (h.failed (means y)).0;
+  others = λ p past most. h.others p most (λ same. apart p part n within past same);
+}
+  where
+    apart : (p part n : ℕ) → part ≤ n → n < p → p ≡ part → ⊥
+    apart p part n within past same = omega (arith, within, past, same)
+
+rose_then : (a b c : ℕ) → a ≤ b → Rose b c → Rose a c
+rose_then a b c le rose = grind (arith, le, rose)
+
+pub counts_then : (n f g h : ℕ) (fs gs hs : ℕ → ℕ) (X Y : Type 0) → CountsWithin n f g fs gs X → CountsWithin n g h gs hs Y → CountsWithin n f h fs hs Y
+counts_then n f g h fs gs hs X Y one two = record {
+  later = omega (arith, one.later, two.later);
+  parts_later = λ p. omega (arith, one.parts_later p, two.parts_later p);
+  failed = λ y. rose_then f g h one.later (two.failed y);
+  others = λ p past most. two.others p past most ∙ one.others p past most;
+}
+
+-- ---- Files that a call leaves.
+
+pub files_apart : (p q : ℕ) → (p ≡ q → ⊥) → ledger_file p ≡ ledger_file q → ⊥
+files_apart p q ne e = ne (ap (λ (f : FileId). f.part) e)
+
+module _ {D : Type 0} (moment : D → ℕ) (image : D → Files → Type 0) (left_since : D → ℕ → Files → Type 0) where
+  -- a ledger whose file a call leaves
+  module _ (old new : D) (content : LedgerContent) (batch : FrameBatch) (since : Since moment image left_since (Appends IsFile StandsIn content batch) old new) where
+    still_backed : (k : LedgerContent) → (k.key ≡ content.key → ⊥) → Backed StandsIn (image old) k → Backed StandsIn (image new) k
+    still_backed k apart backed = record {
+      each = λ c at.
+          let from = since.at_end c at in
+          subst (λ (bytes : List ℕ). KeptOrNot (Stands bytes) k.batches k.standing) (sym (from.2.others k.key apart)) (backed.each from.0 from.1);
+    }
+
+    -- topics from part k on, where the file is that of a part before
+    pub topics_still_backed : (limits : Limits) (p k : ℕ) (ts : List TopicView) → content.key ≡ ledger_file p → p < k → AreTopics limits k ts → All (λ t. Backed StandsIn (image old) t.content) ts → All (λ t. Backed StandsIn (image new) t.content) ts
+    topics_still_backed limits p k [] key past are backed = All-nil (λ t. Backed StandsIn (image new) t.content)
+    topics_still_backed limits p k (t ∷ ts) key past are backed =
+        let first : Backed StandsIn (image new) t.content =
+        still_backed t.content (λ same. files_apart k p (λ e. never k p past e) (sym are.0.key ∙ same ∙ key)) (All-head (λ t. Backed StandsIn (image old) t.content) t ts backed) in
+        All-cons (λ t. Backed StandsIn (image new) t.content) t ts first
+        (topics_still_backed limits p (suc k) ts key (omega (arith, past)) are.1 (All-tail (λ t. Backed StandsIn (image old) t.content) t ts backed))
+      where
+        never : (k p : ℕ) → p < k → k ≡ p → ⊥
+        never k p past e = omega (arith, past, e)
+
+    -- topics from part k on, where the file is that of the one at this index
+    pub topics_backed_but : (limits : Limits) (p k j : ℕ) (ts : List TopicView) (t : TopicView) → content.key ≡ ledger_file p → p ≡ k + j → Backed StandsIn (image new) t.content → AreTopics limits k ts → All (λ t. Backed StandsIn (image old) t.content) ts
+        → All (λ t. Backed StandsIn (image new) t.content) (replaced ts j t)
+    topics_backed_but limits p k j [] t key is here are backed = All-nil (λ t. Backed StandsIn (image new) t.content)
+    topics_backed_but limits p k zero (u ∷ us) t key is here are backed =
+        All-cons (λ t. Backed StandsIn (image new) t.content) t us here (topics_still_backed limits p (suc k) us key (omega (arith, is)) are.1 (All-tail (λ t. Backed StandsIn (image old) t.content) u us backed))
+    topics_backed_but limits p k (suc j) (u ∷ us) t key is here are backed =
+        let first : Backed StandsIn (image new) u.content =
+        still_backed u.content (λ same. files_apart k p (λ e. never k p j is e) (sym are.0.key ∙ same ∙ key)) (All-head (λ t. Backed StandsIn (image old) t.content) u us backed) in
+        All-cons (λ t. Backed StandsIn (image new) t.content) u (replaced us j t) first
+        (topics_backed_but limits p (suc k) j us t key (omega (arith, is)) here are.1 (All-tail (λ t. Backed StandsIn (image old) t.content) u us backed))
+      where
+        never : (k p j : ℕ) → p ≡ k + suc j → k ≡ p → ⊥
+        never k p j is e = omega (arith, is, e)
+
+    -- the coordinator, where the file is a topic's
+    pub coord_still_backed : (p : ℕ) (k : LedgerContent) → content.key ≡ ledger_file p → 1 ≤ p → k.key ≡ ledger_file 0 → Backed StandsIn (image old) k → Backed StandsIn (image new) k
+    coord_still_backed p k key some own backed = still_backed k (λ same. files_apart 0 p (λ e. never p some e) (sym own ∙ same ∙ key)) backed
+      where
+        never : (p : ℕ) → 1 ≤ p → 0 ≡ p → ⊥
+        never p some e = omega (arith, some, e)
+
+  -- ---- Going on.
+
+  module _ (faults : D → ℕ) (part_faults : D → ℕ → ℕ) where
+    -- nothing happened to a part, or to the disk
+    pub goes_still : (X : Type 0) → (X → ⊥) → (v v' : EngineView) (disk : D) → IsWhole v → IsBacked (image disk) v → v'.names ≡ v.names → v'.coord ≡ v.coord → v'.topics ≡ v.topics → Goes moment image left_since faults part_faults X v v' disk disk
+    goes_still X none v v' disk whole backed names coord topics = record {
+      names = names;
+      whole = inl (record { coord = subst (λ (c : CoordView). IsTrue c.whole) (sym coord) whole.coord; topics = subst (λ (ts : List TopicView). All (λ t. IsTrue t.whole) ts) (sym topics) whole.topics });
+      tied = λ tied. record { coord = subst coordinator.IsFrontOf (sym coord) tied.coord; topics = subst (All topic.IsFrontOf) (sym topics) tied.topics };
+      backed = record {
+        coord = subst (λ (c : CoordView). Backed StandsIn (image disk) c.content) (sym coord) backed.coord;
+        topics = subst (λ (ts : List TopicView). All (λ t. Backed StandsIn (image disk) t.content) ts) (sym topics) backed.topics;
+      };
+      images = started moment image left_since disk (KeepsAboveIf (IsTied v) v.names) (λ c at tied floor above. above);
+      cause = counts_still (length v.names) (faults disk) (part_faults disk) X none;
+    }
+
+    -- the same from a view with the same parts
+    pub goes_from : (X : Type 0) (u v v' : EngineView) (old new : D) → v.names ≡ u.names → v.coord ≡ u.coord → v.topics ≡ u.topics → Goes moment image left_since faults part_faults X v v' old new → Goes moment image left_since faults part_faults X u v' old new
+    goes_from X u v v' old new names coord topics goes =
+        let tied : IsTied u → IsTied v =
+        λ was. record { coord = subst coordinator.IsFrontOf (sym coord) was.coord; topics = subst (All topic.IsFrontOf) (sym topics) was.topics } in
+        record {
+          names = goes.names ∙ names;
+          whole = goes.whole;
+          tied = λ was. goes.tied (tied was);
+          backed = goes.backed;
+          images = weaker moment image left_since (KeepsAboveIf (IsTied v) v.names) (KeepsAboveIf (IsTied u) u.names) old new
+              (λ d c at keeps was. subst (λ (ns : List (List ℕ)). KeepsAbove ns d c) names (keeps (tied was))) goes.images;
+          cause = subst (λ (ns : List (List ℕ)). CountsWithin (length ns) (faults old) (faults new) (part_faults old) (part_faults new) X) names goes.cause;
+        }
+
+    -- one call after another, the first of which met no fault
+    pub goes_then : (X Y : Type 0) (u v w : EngineView) (old mid new : D) → Goes moment image left_since faults part_faults X u v old mid → Goes moment image left_since faults part_faults Y v w mid new → Goes moment image left_since faults part_faults Y u w old new
+    goes_then X Y u v w old mid new one two = record {
+      names = two.names ∙ one.names;
+      whole = two.whole;
+      tied = λ was. two.tied (one.tied was);
+      backed = two.backed;
+      images = goes_on moment image left_since (KeepsAboveIf (IsTied u) u.names) (KeepsAboveIf (IsTied v) v.names) (KeepsAboveIf (IsTied u) u.names) old mid new one.images two.images
+          (λ d c at keeps. keeps)
+          (λ d e c at keeps mid_at more was floor above.
+          subst (λ (ns : List (List ℕ)). StandsAbove ns floor c) one.names (more (one.tied was) floor (subst (λ (ns : List (List ℕ)). StandsAbove ns floor e) (sym one.names) (keeps was floor above))));
+      cause = counts_then (length u.names) (faults old) (faults mid) (faults new) (part_faults old) (part_faults mid) (part_faults new) X Y one.cause
+          (subst (λ (ns : List (List ℕ)). CountsWithin (length ns) (faults mid) (faults new) (part_faults mid) (part_faults new) Y) one.names two.cause);
+    }
+
+    module _ (v : EngineView) (is : IsEngine v) (whole : IsWhole v) (old new : D) (backed : IsBacked (image old) v) where
+      -- an entry of the coordinator
+      pub coord_goes : (X Y : Type 0) (e : CoordEntry) (v' : EngineView) → IsCoordEntry e → (IsTied v → Lawful (world_of v) → IsAllowed (in_coord e) (world_of v)) → v'.names ≡ v.names → v'.topics ≡ v.topics → IsTrue v'.coord.whole ⊎ X
+          → (coordinator.IsFrontOf v.coord → coordinator.IsFrontOf v'.coord) → Backed StandsIn (image new) v'.coord.content → Since moment image left_since (Appends IsFile StandsIn v.coord.content (coord_batch e)) old new
+          → CountsFaults v.coord.content.key.part (faults old) (faults new) (part_faults old) (part_faults new) Y → (X → Y) → Goes moment image left_since faults part_faults X v v' old new
+      coord_goes X Y e v' fits allowed names topics now tied coord_backed since cause means = record {
+        names = names;
+        whole = ⊎_elim (λ yes. inl (record { coord = yes; topics = subst (λ (ts : List TopicView). All (λ t. IsTrue t.whole) ts) (sym topics) whole.topics })) (λ x. inr x) now;
+        tied = λ was. record { coord = tied was.coord; topics = subst (All topic.IsFrontOf) (sym topics) was.topics };
+        backed = record {
+          coord = coord_backed;
+          topics = subst (λ (ts : List TopicView). All (λ t. Backed StandsIn (image new) t.content) ts) (sym topics)
+              (topics_still_backed old new v.coord.content (coord_batch e) since v.limits 0 1 v.topics is.coord.key (omega arith) is.topics backed.topics);
+        };
+        images = weaker moment image left_since (Appends IsFile StandsIn v.coord.content (coord_batch e)) (KeepsAboveIf (IsTied v) v.names) old new
+            (λ d c at step was. coord_above v is whole (image old) backed e fits (allowed was) d c at step) since;
+        cause = counts_of (length v.names) v.coord.content.key.part (faults old) (faults new) (part_faults old) (part_faults new) Y X
+            (subst (λ (f : FileId). f.part ≤ length v.names) (sym is.coord.key) (omega arith)) means cause;
+      }
+
+      -- entries of the topic at an index
+      module _ (j : ℕ) (below : j < length v.topics) where
+        abbrev at : TopicView
+        at = get_or v.topics j (some_topic v)
+
+        pub topic_goes : (X Y : Type 0) (es : List TopicEntry) (t : TopicView) (v' : EngineView) → at.content.key ≡ ledger_file (1 + j) → RecordsOf IsBareRecord (records (batch_of es ∷ [])) es → (IsTied v → Lawful (world_of v) → IsAllowed (in_topic (1 + j) es) (world_of v))
+            → v'.names ≡ v.names → v'.coord ≡ v.coord → v'.topics ≡ replaced v.topics j t → IsTrue t.whole ⊎ X
+            → (topic.IsFrontOf at → topic.IsFrontOf t) → Backed StandsIn (image new) t.content → Since moment image left_since (Appends IsFile StandsIn at.content (batch_of es)) old new
+            → CountsFaults at.content.key.part (faults old) (faults new) (part_faults old) (part_faults new) Y → (X → Y) → Goes moment image left_since faults part_faults X v v' old new
+        topic_goes X Y es t v' key each allowed names coord topics now tied here since cause means = record {
+          names = names;
+          whole = ⊎_elim (λ yes. inl (record {
+            coord = subst (λ (c : CoordView). IsTrue c.whole) (sym coord) whole.coord;
+            topics = subst (λ (ts : List TopicView). All (λ t. IsTrue t.whole) ts) (sym topics) (all_replaced (λ t. IsTrue t.whole) v.topics j t yes whole.topics);
+          })) (λ x. inr x) now;
+          tied = λ was. record {
+            coord = subst coordinator.IsFrontOf (sym coord) was.coord;
+            topics = subst (All topic.IsFrontOf) (sym topics) (all_replaced topic.IsFrontOf v.topics j t (tied (at_index topic.IsFrontOf v.topics j (some_topic v) below was.topics)) was.topics);
+          };
+          backed = record {
+            coord = subst (λ (c : CoordView). Backed StandsIn (image new) c.content) (sym coord) (coord_still_backed old new at.content (batch_of es) since (1 + j) v.coord.content key (omega arith) is.coord.key backed.coord);
+            topics = subst (λ (ts : List TopicView). All (λ t. Backed StandsIn (image new) t.content) ts) (sym topics)
+                (topics_backed_but old new at.content (batch_of es) since v.limits (1 + j) 1 j v.topics t key refl here is.topics backed.topics);
+          };
+          images = weaker moment image left_since (Appends IsFile StandsIn at.content (batch_of es)) (KeepsAboveIf (IsTied v) v.names) old new
+              (λ d c from step was. topic_above v is whole (image old) backed j below es each (allowed was) d c from step) since;
+          cause = counts_of (length v.names) at.content.key.part (faults old) (faults new) (part_faults old) (part_faults new) Y X
+              (subst (λ (f : FileId). f.part ≤ length v.names) (sym key) (omega (arith, below, is.count))) means cause;
+        }

@@ -1,0 +1,133 @@
+-- What an engine tells of a read, and how it goes on through one.
+use Rattle.std.proofs.Common.{◌≡◌, ◌⊎◌, inl, inr, ℕ, ◌+◌, ◌-◌, ◌<◌, ◌≤◌, List, [], ◌∷◌, length, Some, None, All, refl, sym, ap, ap₂, ◌∙◌, subst, arith}
+use Rattle.std.proofs.Math.ListN.{get_or}
+use Rattle.std.proofs.lemmas.List.{get_or_default}
+use Rattle.std.proofs.lemmas.List.Elements.{All-head, All-tail, All-cons, All-nil}
+use Rattle.txn_base.specs.declared.file_id.FileId.{FileId}
+use Rattle.txn_base.specs.declared.limits.Limits.{Limits}
+use Rattle.txn_base.specs.declared.entry.TopicEntry.{TopicEntry}
+use Rattle.txn_base.specs.declared.messages.Message.{Message}
+use Rattle.txn_base.specs.declared.request.Request.TheVariants as request
+use Rattle.txn_base.specs.declared.reply.Reply.{Reply}
+use Rattle.txn_base.specs.declared.reply.Reply.TheVariants as reply
+use Rattle.txn_base.specs.declared.reply.Refusal.TheVariants as no
+use Rattle.txn_base.specs.Content.{LedgerContent, KeptOrNot, Backed}
+use Rattle.txn_base.specs.Disk.{Files, Same, Since, CountsFaults}
+use Rattle.txn_base.specs.Outside.{Rose}
+use Rattle.txn_base.proofs.Moments.{weaker}
+use Rattle.txn_ledger.specs.Ledger.{StandsIn}
+use Rattle.txn_model.specs.Answers.{Answers}
+use Rattle.txn_model.specs.Names.{part_of}
+use Rattle.txn_model.specs.Sound.{ledger_file}
+use Rattle.txn_model.specs.Table.{TableState}
+use Rattle.txn_model.specs.Topic.{limit_of, read_slice}
+use Rattle.txn_buffer.specs.View.{TopicView, IsFrontOf}
+use Rattle.txn_wire.specs.Short.{IsPartName}
+use Rattle.txn_engine.specs.Above.{StandsAbove, KeepsAboveIf}
+use Rattle.txn_engine.specs.Kept.{IsTopic, IsEngine}
+use Rattle.txn_engine.specs.Told.{MayTell, RoseFor, Goes}
+use Rattle.txn_engine.specs.View.{EngineView, IsWhole, IsTied, IsBacked}
+use Rattle.txn_engine.proofs.Begun.{short_told, row_told, memory_told}
+use Rattle.txn_engine.proofs.Going.{counts_of}
+use Rattle.txn_engine.proofs.Lists.{topic_at, at_index}
+use Rattle.txn_engine.proofs.TopicNames.{part_name}
+use Rattle.txn_engine.proofs.TopicRows.{Knows, knows, unknown_read, read_told, read_fault_told}
+use Rattle.txn_engine.proofs.Whole.{whole_table, table_is}
+use Rattle.txn_engine.proofs.Worlds.{some_topic}
+
+-- ---- The topic at an index.
+
+-- A topic that was looked at is the one at the index j.
+abbrev pub IsAt : EngineView → ℕ → TopicView → Type 0
+IsAt v j t = get_or v.topics j (some_topic v) ≡ t
+
+pub at_place : (v : EngineView) (j : ℕ) (t : TopicView) → j < length v.topics → t ≡ get_or v.topics j t → IsAt v j t
+at_place v j t below e = get_or_default v.topics j (some_topic v) t below ∙ sym e
+
+pub at_known : (v : EngineView) (topic : List ℕ) (p j : ℕ) → Knows v topic p j → (t : TopicView) → t ≡ get_or v.topics j t → IsAt v j t
+at_known v topic p j found t e = at_place v j t found.below e
+
+pub is_topic_at : (v : EngineView) → IsEngine v → (j : ℕ) (t : TopicView) → j < length v.topics → IsAt v j t → IsTopic v.limits (1 + j) t
+is_topic_at v is j t below at = subst (IsTopic v.limits (1 + j)) at (topic_at v.limits 1 v.topics j (some_topic v) (1 + j) refl below is.topics)
+
+pub tied_at : (v : EngineView) (topic : List ℕ) (p j : ℕ) → Knows v topic p j → (t : TopicView) → t ≡ get_or v.topics j t → IsTied v → IsFrontOf t
+tied_at v topic p j found t e tied = subst IsFrontOf (at_known v topic p j found t e) (at_index IsFrontOf v.topics j (some_topic v) found.below tied.topics)
+
+pub backed_at : (image : Files → Type 0) (v : EngineView) (topic : List ℕ) (p j : ℕ) → Knows v topic p j → (t : TopicView) → t ≡ get_or v.topics j t → IsBacked image v → Backed StandsIn image t.content
+backed_at image v topic p j found t e backed = subst (λ (u : TopicView). Backed StandsIn image u.content) (at_known v topic p j found t e) (at_index (λ t. Backed StandsIn image t.content) v.topics j (some_topic v) found.below backed.topics)
+
+pub known_name : (v : EngineView) → IsEngine v → (topic : List ℕ) (p : ℕ) (named : List ℕ) → part_of v.names topic ≡ Some p → named ≡ topic → IsPartName named
+known_name v is topic p named known same = subst IsPartName (sym same) (part_name topic (knows v is topic p known).form)
+
+pub rose_at : (key : FileId) (q f g : ℕ) (fs gs : ℕ → ℕ) → key ≡ ledger_file q → Rose f g × Rose (fs key.part) (gs key.part) → RoseFor f g fs gs q
+rose_at key q f g fs gs e rose = subst (λ (k : FileId). Rose f g × Rose (fs k.part) (gs k.part)) e rose
+
+-- ---- What is told.
+
+module _ (v : EngineView) (is : IsEngine v) (whole : IsWhole v) (tied : IsTied v) (f g : ℕ) (fs gs : ℕ → ℕ) (topic : List ℕ) (first max m : ℕ) where
+  abbrev rose : ℕ → Type 0
+  rose = RoseFor f g fs gs
+
+  pub unknown_read_told : part_of v.names topic ≡ None → (told : Reply) → (told ≡ reply.No (no.UnknownPart topic)) ⊎ (told ≡ reply.No no.NoMemory) → MayTell f g fs gs v (request.Read topic first max) m told v
+  unknown_read_told none told (inl e) =
+      subst (λ (r : Reply). MayTell f g fs gs v (request.Read topic first max) m r v) (sym e)
+      (record { answers = row_told v is whole tied v.limits rose (request.Read topic first max) (no.UnknownPart topic) (unknown_read v.limits v topic first max none); instead = λ long. memory_told v is whole tied v.limits rose (request.Read topic first max) })
+  unknown_read_told none told (inr e) =
+      subst (λ (r : Reply). MayTell f g fs gs v (request.Read topic first max) m r v) (sym e)
+      (short_told f g fs gs v (request.Read topic first max) m (reply.No no.NoMemory) v refl (memory_told v is whole tied v.limits rose (request.Read topic first max)))
+
+  module _ (p : ℕ) (known : part_of v.names topic ≡ Some p) (t : TopicView) (at : IsAt v (p - 1) t) where
+    here : Knows v topic p (p - 1)
+    here = knows v is topic p known
+
+    one : IsTopic v.limits (1 + (p - 1)) t
+    one = is_topic_at v is (p - 1) t here.below at
+
+    in_table : (told : Reply) → Answers v.limits rose (whole_table v) (request.Read topic first max) told (whole_table v) → MayTell f g fs gs v (request.Read topic first max) m told v
+    in_table told h = record {
+      answers = subst (λ (s : TableState). Answers v.limits rose s (request.Read topic first max) told s) (sym (table_is v is whole tied)) h;
+      instead = λ long. memory_told v is whole tied v.limits rose (request.Read topic first max);
+    }
+
+    pub read_answer : (limit : ℕ) (messages : List Message) → limit ≡ limit_of t.front → messages ≡ read_slice t.limits t.front first max → MayTell f g fs gs v (request.Read topic first max) m (reply.Read limit messages) v
+    read_answer limit messages l e =
+        in_table (reply.Read limit messages)
+        (read_told v.limits rose v topic p (p - 1) here first max limit messages
+        (l ∙ ap (λ (u : TopicView). limit_of u.front) (sym at))
+        (e ∙ ap₂ (λ (x : Limits) (es : List TopicEntry). read_slice x es first max) one.limits_are (ap (λ (u : TopicView). u.front) (sym at))))
+
+    pub read_fault_answer : (named : List ℕ) → named ≡ topic → Rose f g × Rose (fs t.content.key.part) (gs t.content.key.part) → MayTell f g fs gs v (request.Read topic first max) m (reply.No (no.Fault named)) v
+    read_fault_answer named same cause =
+        in_table (reply.No (no.Fault named)) (read_fault_told v.limits rose v topic p (p - 1) here first max named same (rose_at t.content.key (1 + (p - 1)) f g fs gs one.key cause))
+
+-- ---- Nothing changes.
+
+module _ {D : Type 0} (moment : D → ℕ) (image : D → Files → Type 0) (left_since : D → ℕ → Files → Type 0) (old new : D) (since : Since moment image left_since Same old new) where
+  same_backed : (k : LedgerContent) → Backed StandsIn (image old) k → Backed StandsIn (image new) k
+  same_backed k backed = record {
+    each = λ c at. let from = since.at_end c at in subst (λ (files : Files). KeptOrNot (StandsIn k.key files) k.batches k.standing) (sym from.2) (backed.each from.0 from.1);
+  }
+
+  topics_same_backed : (ts : List TopicView) → All (λ t. Backed StandsIn (image old) t.content) ts → All (λ t. Backed StandsIn (image new) t.content) ts
+  topics_same_backed [] backed = All-nil (λ t. Backed StandsIn (image new) t.content)
+  topics_same_backed (t ∷ ts) backed =
+      All-cons (λ t. Backed StandsIn (image new) t.content) t ts (same_backed t.content (All-head (λ t. Backed StandsIn (image old) t.content) t ts backed))
+      (topics_same_backed ts (All-tail (λ t. Backed StandsIn (image old) t.content) t ts backed))
+
+  pub read_goes : (faults : D → ℕ) (part_faults : D → ℕ → ℕ) (v : EngineView) → IsEngine v → IsWhole v → IsBacked (image old) v → (topic : List ℕ) (p : ℕ) → part_of v.names topic ≡ Some p → (t : TopicView) → IsAt v (p - 1) t → (X Y : Type 0)
+      → CountsFaults t.content.key.part (faults old) (faults new) (part_faults old) (part_faults new) Y → (X → Y) → Goes moment image left_since faults part_faults X v v old new
+  read_goes faults part_faults v is whole backed topic p known t at X Y cause means =
+      let found = knows v is topic p known in
+      let one : IsTopic v.limits (1 + (p - 1)) t = is_topic_at v is (p - 1) t found.below at in
+      record {
+        names = refl;
+        whole = inl whole;
+        tied = λ was. was;
+        backed = record { coord = same_backed v.coord.content backed.coord; topics = topics_same_backed v.topics backed.topics };
+        images = weaker moment image left_since Same (KeepsAboveIf (IsTied v) v.names) old new (λ d c here same was floor above. subst (StandsAbove v.names floor) (sym same) above) since;
+        cause = counts_of (length v.names) t.content.key.part (faults old) (faults new) (part_faults old) (part_faults new) Y X
+            (subst (λ (k : FileId). k.part ≤ length v.names) (sym one.key) (within (p - 1) (length v.topics) (length v.names) found.below is.count)) means cause;
+      }
+    where
+      within : (j m n : ℕ) → j < m → m ≡ n → 1 + j ≤ n
+      within j m n h e = omega (arith, h, e)

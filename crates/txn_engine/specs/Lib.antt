@@ -1,0 +1,7 @@
+pub mod View
+pub mod Table
+pub mod Above
+pub mod Kept
+pub mod Told
+pub mod Refusals
+pub mod Publishing

@@ -1,0 +1,55 @@
+-- What an engine may tell, and how it goes on.
+use Rattle.std.specs.Prelude.{◌≡◌, ◌⊎◌, ℕ, ◌<◌, ◌≤◌, true, false, length}
+use Rattle.txn_base.specs.declared.request.Request.{Request}
+use Rattle.txn_base.specs.declared.request.Request.TheVariants as request
+use Rattle.txn_base.specs.declared.reply.Reply.{Reply}
+use Rattle.txn_base.specs.declared.reply.Reply.TheVariants as reply
+use Rattle.txn_base.specs.declared.reply.Refusal.TheVariants as no
+use Rattle.txn_base.specs.Disk.{Files, Since}
+use Rattle.txn_base.specs.Outside.{Rose}
+use Rattle.txn_model.specs.Answers.{AnswersAt}
+use Rattle.txn_wire.specs.Short.{IsShort, is_long}
+use Rattle.txn_engine.specs.Above.{KeepsAboveIf}
+use Rattle.txn_engine.specs.Table.{table_of}
+use Rattle.txn_engine.specs.View.{EngineView, IsWhole, IsTied, IsBacked}
+
+-- A request that may be asked: one of the forms that an engine knows so far, with at least one text or message.
+abbrev pub IsAsked : Request → Type 0
+IsAsked (request.New timeout) = Unit {0}
+IsAsked (request.Add x part) = Unit {0}
+IsAsked (request.Publish topic who bodies) = 1 ≤ length bodies
+IsAsked (request.Read topic first max) = 1 ≤ max
+IsAsked (request.Status x) = Unit {0}
+IsAsked _ = ⊥
+
+-- The disk's count and that of this part rose.
+abbrev pub RoseFor : ℕ → ℕ → (ℕ → ℕ) → (ℕ → ℕ) → ℕ → Type 0
+RoseFor before now parts_before parts_now p = Rose before now × Rose (parts_before p) (parts_now p)
+
+-- From the table of v, at this moment, the request may be told this, and leave the table of v'; and where the text of the
+-- reply is long, want of memory may be told instead.
+pub record MayTell (before now : ℕ) (parts_before parts_now : ℕ → ℕ) (v : EngineView) (r : Request) (m : ℕ) (told : Reply) (v' : EngineView) : Type 0 where
+  pub answers : AnswersAt v.limits (RoseFor before now parts_before parts_now) (table_of v) r m told (table_of v')
+  pub instead : is_long told ≡ true → AnswersAt v.limits (RoseFor before now parts_before parts_now) (table_of v) r m (reply.No no.NoMemory) (table_of v')
+
+-- A reply has a long text, or one within the room.
+abbrev pub IsTellable : Reply → Type 0
+IsTellable r = is_long r ≡ false → IsShort r
+
+-- A call on the files of n parts and of the coordinator may answer a fault, which comes only where the count rose. No count
+-- falls, and those of other parts stay.
+pub record CountsWithin (n before now : ℕ) (parts_before parts_now : ℕ → ℕ) (is_fault : Type 0) : Type 0 where
+  pub later : before ≤ now
+  pub parts_later : (p : ℕ) → parts_before p ≤ parts_now p
+  pub failed : is_fault → Rose before now
+  pub others : (p : ℕ) → n < p → p < 64 → parts_now p ≡ parts_before p
+
+-- From v to v', over these disks, all that was rebuilt stays so, or a fault is told; what is rebuilt stays tied to the
+-- ledgers, and they to each image; and whatever world each image at the call extends soundly, each image since does.
+pub record Goes {D : Type 0} (moment : D → ℕ) (image : D → Files → Type 0) (left_since : D → ℕ → Files → Type 0) (faults : D → ℕ) (part_faults : D → ℕ → ℕ) (is_fault : Type 0) (v v' : EngineView) (old new : D) : Type 0 where
+  pub names : v'.names ≡ v.names
+  pub whole : IsWhole v' ⊎ is_fault
+  pub tied : IsTied v → IsTied v'
+  pub backed : IsBacked (image new) v'
+  pub images : Since moment image left_since (KeepsAboveIf (IsTied v) v.names) old new
+  pub cause : CountsWithin (length v.names) (faults old) (faults new) (part_faults old) (part_faults new) is_fault

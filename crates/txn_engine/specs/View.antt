@@ -1,0 +1,47 @@
+-- What an engine is seen as.
+use Rattle.std.specs.Prelude.{ℕ, zero, suc, List, [], ◌∷◌, All, IsTrue}
+use Rattle.txn_base.specs.declared.limits.Limits.{Limits}
+use Rattle.txn_base.specs.Content.{Backed}
+use Rattle.txn_base.specs.Disk.{Files}
+use Rattle.txn_coordinator.specs.View as coordinator
+use Rattle.txn_coordinator.specs.View.{CoordView}
+use Rattle.txn_buffer.specs.View as topic
+use Rattle.txn_buffer.specs.View.{TopicView}
+use Rattle.txn_ledger.specs.Ledger.{StandsIn}
+
+-- The names of its parts, which are topics, numbered from 1; its coordinator; the topics, in order of their number; the
+-- greatest moment told; and the bounds.
+pub record EngineView : Type 0 where
+  pub names : List (List ℕ)
+  pub coord : CoordView
+  pub topics : List TopicView
+  pub latest : ℕ
+  pub limits : Limits
+
+-- With this coordinator; with these topics.
+abbrev pub with_coord : EngineView → CoordView → EngineView
+with_coord v c = record { names = v.names; coord = c; topics = v.topics; latest = v.latest; limits = v.limits }
+
+abbrev pub with_topics : EngineView → List TopicView → EngineView
+with_topics v ts = record { names = v.names; coord = v.coord; topics = ts; latest = v.latest; limits = v.limits }
+
+-- These topics, with another one at this index.
+abbrev pub replaced : List TopicView → ℕ → TopicView → List TopicView
+replaced [] i t = []
+replaced (u ∷ us) zero t = t ∷ us
+replaced (u ∷ us) (suc i) t = u ∷ replaced us i t
+
+-- Every part is rebuilt.
+pub record IsWhole (v : EngineView) : Type 0 where
+  pub coord : IsTrue v.coord.whole
+  pub topics : All (λ t. IsTrue t.whole) v.topics
+
+-- What was rebuilt is what the ledgers hold. On a disk that doesn't tell what it holds, nobody knows whether it is.
+pub record IsTied (v : EngineView) : Type 0 where
+  pub coord : coordinator.IsFrontOf v.coord
+  pub topics : All topic.IsFrontOf v.topics
+
+-- Each image of a disk is as the ledgers tell.
+pub record IsBacked (image : Files → Type 0) (v : EngineView) : Type 0 where
+  pub coord : Backed StandsIn image v.coord.content
+  pub topics : All (λ t. Backed StandsIn image t.content) v.topics

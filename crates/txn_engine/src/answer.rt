@@ -1,0 +1,54 @@
+//! The answer to one request.
+ghost use Rattle.std.specs.Prelude.{◌≡◌, ◌⊎◌, true, length};
+ghost use Rattle.txn_base.specs.Disk.{Since};
+ghost use Rattle.txn_base.specs.declared.reply.Reply.TheVariants as reply;
+ghost use Rattle.txn_base.specs.declared.reply.Refusal.TheVariants as no;
+ghost use Rattle.txn_engine.specs.Above.{KeepsAboveIf};
+ghost use Rattle.txn_engine.specs.Table.{table_of};
+ghost use Rattle.txn_engine.specs.Told.{IsAsked, RoseFor, CountsWithin, IsTellable};
+ghost use Rattle.txn_engine.specs.View.{IsWhole, IsTied, IsBacked};
+ghost use Rattle.txn_model.specs.Answers.{AnswersAt};
+ghost use Rattle.txn_model.specs.Replies.{is_fault};
+ghost use Rattle.txn_wire.specs.Short.{is_long};
+
+use crate::engine::Engine;
+use std::sync::ledger;
+use txn_base::{Disk, Refusal, Reply, Request, Steps};
+
+impl Engine {
+    /// The reply to one request at this moment, which is read of a `new` alone. Every part is rebuilt at the call; where
+    /// afterwards one isn't, a fault was told, and it stays so.
+    pub fn answer<D: Disk, L: ledger::Ledger>(
+        &mut self,
+        disk: &mut D,
+        now: u64,
+        request: &Request,
+        steps: &mut Steps<L>,
+    ) -> Reply
+        requires whole { IsWhole self.old }
+        requires asked { IsAsked request.now }
+        requires backed { IsBacked (D.image disk.old) self.old }
+
+        // The reply is one of the table's, and leaves its state.
+        ensures answers { D.tells → IsTied self.old → AnswersAt self.old.limits (RoseFor (D.faults disk.old) (D.faults disk.new) (D.part_faults disk.old) (D.part_faults disk.new)) (table_of self.old) request.now now result (table_of self.new) }
+        ensures instead { D.tells → IsTied self.old → is_long result ≡ true → AnswersAt self.old.limits (RoseFor (D.faults disk.old) (D.faults disk.new) (D.part_faults disk.old) (D.part_faults disk.new)) (table_of self.old) request.now now (reply.No no.NoMemory) (table_of self.new) }
+        ensures tellable { IsTellable result }
+        ensures names { self.new.names ≡ self.old.names }
+        ensures whole { IsWhole self.new ⊎ (is_fault result ≡ true) }
+        ensures tied { IsTied self.old → IsTied self.new }
+        ensures backed { IsBacked (D.image disk.new) self.new }
+
+        // Whatever world each image at the call extends soundly, each image at any moment since does.
+        ensures images { Since D.moment D.image D.left_since (KeepsAboveIf (IsTied self.old) self.old.names) disk.old disk.new }
+        ensures cause { CountsWithin (length self.old.names) (D.faults disk.old) (D.faults disk.new) (D.part_faults disk.old) (D.part_faults disk.new) (is_fault result ≡ true) }
+    {
+        match request {
+            Request::New { timeout } => self.begin(disk, now, *timeout),
+            Request::Add { txn, part } => self.add(disk, *txn, part),
+            Request::Publish { topic, txn, bodies } => self.publish(disk, topic, *txn, bodies),
+            Request::Read { topic, first, max } => self.read(disk, topic, *first, *max, steps),
+            Request::Status { txn } => self.status(*txn),
+            _ => Reply::No(Refusal::BadLine),
+        }
+    }
+}

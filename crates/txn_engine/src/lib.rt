@@ -1,0 +1,12 @@
+//! All parts of a disk together, and the answer to one request.
+#![tactic(auto)]
+
+mod answer;
+mod begin;
+mod engine;
+mod names;
+mod publish;
+mod read;
+mod refusals;
+
+pub use engine::Engine;

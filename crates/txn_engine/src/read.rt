@@ -1,0 +1,52 @@
+//! Reading visible messages of a topic.
+ghost use Rattle.std.specs.Prelude.{◌≡◌, ◌≤◌, ℕ, true};
+ghost use Rattle.txn_base.specs.declared.request.Request.TheVariants as request;
+ghost use Rattle.txn_engine.specs.Told.{MayTell, IsTellable, Goes};
+ghost use Rattle.txn_engine.specs.View.{IsWhole, IsTied, IsBacked};
+ghost use Rattle.txn_model.specs.Replies.{is_fault};
+
+use crate::engine::Engine;
+use crate::names::{part_of, unknown_part};
+use std::sync::ledger;
+use txn_base::{Disk, Refusal, Reply, Steps, Text, TextRoom};
+use txn_buffer::TopicError;
+
+impl Engine {
+    /// Reads visible messages. A failed read changes nothing.
+    pub(crate) fn read<D: Disk, L: ledger::Ledger>(
+        &self,
+        disk: &mut D,
+        topic: &Text,
+        first: u64,
+        max: u64,
+        steps: &mut Steps<L>,
+    ) -> Reply
+        requires whole { IsWhole self.now }
+        requires some { 1 ≤ max }
+        requires backed { IsBacked (D.image disk.old) self.now }
+        ensures told { D.tells → IsTied self.now → (now : ℕ) → MayTell (D.faults disk.old) (D.faults disk.new) (D.part_faults disk.old) (D.part_faults disk.new) self.now (request.Read topic.now first max) now result self.now }
+        ensures tellable { IsTellable result }
+        ensures goes { Goes D.moment D.image D.left_since D.faults D.part_faults (is_fault result ≡ true) self.now self.now disk.old disk.new }
+    {
+        let Some(number) = part_of(&self.names, topic) else {
+            return unknown_part(topic);
+        };
+        let Ok(room) = TextRoom::new(self.alloc, topic.len()) else {
+            return Reply::No(Refusal::NoMemory);
+        };
+        let part = &self.topics[number - 1];
+        let limit = part.limit();
+        match part.read(disk, first, max, steps) {
+            Ok(messages) => Reply::Read { limit, messages },
+            Err(TopicError::Damaged { place }) => Reply::No(Refusal::Damaged {
+                part: room.fill(topic.as_str()),
+                place,
+            }),
+            Err(TopicError::Fault) => Reply::No(Refusal::Fault {
+                part: room.fill(topic.as_str()),
+            }),
+            Err(TopicError::NoMemory) => Reply::No(Refusal::NoMemory),
+            Err(TopicError::Full { .. }) => unreachable!(),
+        }
+    }
+}
