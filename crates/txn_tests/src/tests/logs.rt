@@ -1,7 +1,6 @@
 //! What a coordinator replays of small logs.
 ghost use Rattle.std.specs.Prelude.{◌≡◌, IfSome};
 ghost use Rattle.txn_base.specs.Content.{Backed, looked_at};
-ghost use Rattle.txn_base.specs.Limits.{InRange};
 ghost use Rattle.txn_ledger.specs.Ledger.{StandsIn};
 
 use crate::*;
