@@ -7,34 +7,15 @@ is what the system counts for the program, which other programs beside it move l
 Usage: lines.py [PROGRAM [FOLDER]]   (PROGRAM as `rt run` left it, unless another is named; the disk of FOLDER is measured)"""
 import os
 import statistics
-import subprocess
-import sys
-import tempfile
 import threading
 import time
 
-HERE = os.path.dirname(os.path.abspath(__file__))
-PROGRAM = os.path.abspath(sys.argv[1]) if len(sys.argv) > 1 else f"{HERE}/../crates/pulsar_txn/out/pulsar_txn"
+from behind_pipes import PROGRAM, ask, compiled, folder, start
+
 ROUNDS, ONE_BY_ONE, AT_ONCE, DURABLE = 10, 5_000, 100_000, 500
 STATUS = b'{"do":"status","txn":[0,0]}\n'
 PUBLISH = b'{"do":"publish","topic":"orders","data":"' + b"x" * 100 + b'"}\n'
 ELSEWHERE = PUBLISH.replace(b"orders", b"nobody")
-
-
-def ask(program, line):
-    """Writes a line and waits for its reply. It takes what has come in one call, so that a long reply costs no more."""
-    os.write(program.stdin.fileno(), line)
-    reply = b""
-    while not reply.endswith(b"\n"):
-        reply = os.read(program.stdout.fileno(), 65536)
-        assert reply, "no more replies"
-
-
-def start(command, line):
-    """A program that has answered one line."""
-    program = subprocess.Popen(command, stdin=subprocess.PIPE, stdout=subprocess.PIPE, bufsize=0)
-    ask(program, line)
-    return program
 
 
 def processor_time(program):
@@ -47,7 +28,7 @@ def processor_time(program):
 
 def one_by_one(command, line, count):
     """Seconds and processor time a line, where each reply is waited for."""
-    program = start(command, line)
+    program, _ = start(command, line)
     begin = time.perf_counter()
     for _ in range(count):
         ask(program, line)
@@ -58,7 +39,7 @@ def one_by_one(command, line, count):
 
 def at_once(command, line, count):
     """The same, where all lines are written before a reply is waited for."""
-    program = start(command, line)
+    program, _ = start(command, line)
     given, replies = memoryview(line * count), 0
 
     def write():
@@ -92,10 +73,8 @@ def told(what, ours, theirs):
 
 
 def main():
-    with tempfile.TemporaryDirectory(dir=sys.argv[2] if len(sys.argv) > 2 else None) as top:
-        echo = f"{top}/echo"
-        subprocess.run(["gcc", "-O2", "-o", echo, f"{HERE}/echo.c"], check=True)
-        commands = ([PROGRAM, f"{top}/data", "lines", "orders"], [echo])
+    with folder() as top:
+        commands = ([PROGRAM, f"{top}/data", "lines", "orders"], [compiled("echo", top)])
         rows = {"status, one by one": (one_by_one, STATUS, ONE_BY_ONE), "status, at once": (at_once, STATUS, AT_ONCE), "publish elsewhere, at once": (at_once, ELSEWHERE, AT_ONCE)}
         took = {name: ([], []) for name in rows}
         shares = []

@@ -3,15 +3,11 @@
 the five calls of an append alone, with frames of the same size. One message a publish, and 64 in one batch. Fifty rounds of
 100 lines each, the two by turns; the median of the rounds' ratios.
 Usage: publish.py [PROGRAM [FOLDER]]   (PROGRAM as `rt run` left it, unless another is named; the disk of FOLDER is measured)"""
-import os
 import statistics
-import subprocess
-import sys
-import tempfile
 import time
 
-HERE = os.path.dirname(os.path.abspath(__file__))
-PROGRAM = os.path.abspath(sys.argv[1]) if len(sys.argv) > 1 else f"{HERE}/../crates/pulsar_txn/out/pulsar_txn"
+from behind_pipes import PROGRAM, ask, compiled, folder, start
+
 LINES, ROUNDS, SIZE = 100, 50, 100
 
 
@@ -26,23 +22,17 @@ def frame_size(messages):
     return 5 + messages * (2 + 2 + SIZE)
 
 
-def ask(program, line):
-    """Writes a line and waits for its reply, which it takes in one call where it has come."""
-    os.write(program.stdin.fileno(), line)
-    reply = b""
-    while not reply.endswith(b"\n"):
-        piece = os.read(program.stdout.fileno(), 65536)
-        assert piece, f"no more replies behind {reply!r}"
-        reply += piece
-    assert reply.endswith(b'"ok":"publish"}\n'), reply
+def is_published(reply):
+    return reply.endswith(b'"ok":"publish"}\n')
 
 
 def seconds(command, line):
-    program = subprocess.Popen(command, stdin=subprocess.PIPE, stdout=subprocess.PIPE, bufsize=0)
-    ask(program, line)
+    program, reply = start(command, line)
+    assert is_published(reply), reply
     begin = time.perf_counter()
     for _ in range(LINES):
-        ask(program, line)
+        reply = ask(program, line)
+        assert is_published(reply), reply
     end = time.perf_counter()
     program.stdin.close()
     assert program.wait() == 0
@@ -65,9 +55,8 @@ def row(top, floor, messages):
 
 
 def main():
-    with tempfile.TemporaryDirectory(dir=sys.argv[2] if len(sys.argv) > 2 else None) as top:
-        floor = f"{top}/floor"
-        subprocess.run(["gcc", "-O2", "-o", floor, f"{HERE}/floor.c"], check=True)
+    with folder() as top:
+        floor = compiled("floor", top)
         for messages in (1, 64):
             row(top, floor, messages)
 
