@@ -5,3 +5,4 @@ pub mod Kept
 pub mod Told
 pub mod Refusals
 pub mod Publishing
+pub mod Opening

@@ -5,8 +5,10 @@ mod answer;
 mod begin;
 mod engine;
 mod names;
+mod opening;
 mod publish;
 mod read;
 mod refusals;
 
 pub use engine::Engine;
+pub use opening::EngineError;
