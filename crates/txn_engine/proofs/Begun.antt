@@ -252,7 +252,7 @@ added_short (Ok u) = refl
 added_short (Err e) = short_refusal e
 
 -- by an error
-kept_by : (v : EngineView) → IsEngine v → (c' : CoordView) (entry : CoordEntry) (e : CoordError) → (e ≡ coord_error.Fault → c' ≡ fenced v.coord entry) → ((e ≡ coord_error.Fault → ⊥) → c' ≡ v.coord) → IsCoordinator v.limits (length v.names) c'
+pub kept_by : (v : EngineView) → IsEngine v → (c' : CoordView) (entry : CoordEntry) (e : CoordError) → (e ≡ coord_error.Fault → c' ≡ fenced v.coord entry) → ((e ≡ coord_error.Fault → ⊥) → c' ≡ v.coord) → IsCoordinator v.limits (length v.names) c'
 kept_by v is c' entry coord_error.Fault fault same = subst (IsCoordinator v.limits (length v.names)) (sym (fault refl)) (fenced_is v.limits (length v.names) v.coord entry is.coord)
 kept_by v is c' entry coord_error.NotFound fault same = subst (IsCoordinator v.limits (length v.names)) (sym (same (λ f. cc))) is.coord
 kept_by v is c' entry (coord_error.NotOpen status) fault same = subst (IsCoordinator v.limits (length v.names)) (sym (same (λ f. cc))) is.coord

@@ -41,7 +41,7 @@ row_allowed v is whole r b early late adds tied lawful =
     let same : world_of v ≡ whole_world v = world_is v is whole tied in
     subst (IsAllowed b) (sym same) (subst (λ (x : Batch). IsAllowed x (whole_world v)) adds (row_granted v.limits (whole_table v) r (subst Lawful same lawful) early late).allowed)
 
-no_fault_refusal : (e : CoordError) → (e ≡ coord_error.Fault → ⊥) → is_fault (reply.No (coord_refusal e)) ≡ true → ⊥
+pub no_fault_refusal : (e : CoordError) → (e ≡ coord_error.Fault → ⊥) → is_fault (reply.No (coord_refusal e)) ≡ true → ⊥
 no_fault_refusal coord_error.NotFound ne h = cc
 no_fault_refusal (coord_error.NotOpen status) ne h = cc
 no_fault_refusal coord_error.BadTimeout ne h = cc
@@ -49,7 +49,7 @@ no_fault_refusal (coord_error.Full what count) ne h = cc
 no_fault_refusal coord_error.Fault ne h = ne refl
 no_fault_refusal coord_error.NoMemory ne h = cc
 
-fault_refusal : (e : CoordError) → is_fault (reply.No (coord_refusal e)) ≡ true → e ≡ coord_error.Fault
+pub fault_refusal : (e : CoordError) → is_fault (reply.No (coord_refusal e)) ≡ true → e ≡ coord_error.Fault
 fault_refusal coord_error.NotFound h = cc
 fault_refusal (coord_error.NotOpen status) h = cc
 fault_refusal coord_error.BadTimeout h = cc

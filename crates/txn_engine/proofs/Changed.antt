@@ -24,7 +24,7 @@ use Rattle.txn_engine.proofs.Whole.{whole_table, coord_front, lists_are, settled
 
 -- ---- A part that has failed isn't rebuilt, and no place of it is delivered.
 
-given_same : (p : ℕ) → set_at (λ (s : ℕ). nowhere) p nowhere ≡ (λ (s : ℕ). nowhere)
+pub given_same : (p : ℕ) → set_at (λ (s : ℕ). nowhere) p nowhere ≡ (λ (s : ℕ). nowhere)
 given_same p = λ i s. at (s == p) i
   where
     at : (b : Bool) → (if b then nowhere else nowhere) ≡ nowhere

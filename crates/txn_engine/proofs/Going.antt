@@ -138,6 +138,17 @@ module _ {D : Type 0} (moment : D → ℕ) (image : D → Files → Type 0) (lef
           cause = subst (λ (ns : List (List ℕ)). CountsWithin (length ns) (faults old) (faults new) (part_faults old) (part_faults new) X) names goes.cause;
         }
 
+    -- by a word that means the same
+    pub goes_like : (X Y : Type 0) (v v' : EngineView) (old new : D) → (X → Y) → (Y → X) → Goes moment image left_since faults part_faults X v v' old new → Goes moment image left_since faults part_faults Y v v' old new
+    goes_like X Y v v' old new to from goes = record {
+      names = goes.names;
+      whole = ⊎_elim (λ yes. inl yes) (λ x. inr (to x)) goes.whole;
+      tied = goes.tied;
+      backed = goes.backed;
+      images = goes.images;
+      cause = record { later = goes.cause.later; parts_later = goes.cause.parts_later; failed = λ y. goes.cause.failed (from y); others = goes.cause.others };
+    }
+
     -- one call after another, the first of which met no fault
     pub goes_then : (X Y : Type 0) (u v w : EngineView) (old mid new : D) → Goes moment image left_since faults part_faults X u v old mid → Goes moment image left_since faults part_faults Y v w mid new → Goes moment image left_since faults part_faults Y u w old new
     goes_then X Y u v w old mid new one two = record {

@@ -16,3 +16,7 @@ pub mod AtView
 pub mod Reading
 pub mod Published
 pub mod PublishedGoes
+pub mod Same
+pub mod Marks
+pub mod Decided
+pub mod Parts

@@ -13,7 +13,7 @@ use Rattle.txn_engine.specs.Kept.{IsTopic, AreTopics}
 use Rattle.txn_engine.specs.Table.{topic_flight, lists_from, flights_from, unrebuilt_from}
 use Rattle.txn_engine.specs.View.{replaced}
 
-never_below : (i : ℕ) → i < 0 → ⊥
+pub never_below : (i : ℕ) → i < 0 → ⊥
 never_below i h = omega (arith, h)
 
 pub set_is : (ts : List TopicView) (i : ℕ) (t : TopicView) → set ts i t ≡ replaced ts i t

@@ -121,7 +121,7 @@ module _ (v : EngineView) (is : IsEngine v) (c : Files) (coord_here : StandsIn v
 
 -- ---- The ledgers of a whole engine are settled, and so each image has just their batches.
 
-stands_settled : (P : List Batch → Type 0) (batches : List Batch) (s : Standing) → s ≡ settled → KeptOrNot P batches s → P batches
+pub stands_settled : (P : List Batch → Type 0) (batches : List Batch) (s : Standing) → s ≡ settled → KeptOrNot P batches s → P batches
 stands_settled P batches s e h = subst (KeptOrNot P batches) e h
 
 pub coord_backed : (v : EngineView) → IsEngine v → IsWhole v → (image : Files → Type 0) → IsBacked image v → (c : Files) → image c → StandsIn v.coord.content.key c v.coord.content.batches

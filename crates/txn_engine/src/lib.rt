@@ -3,6 +3,7 @@
 
 mod answer;
 mod begin;
+mod end;
 mod engine;
 mod names;
 mod opening;

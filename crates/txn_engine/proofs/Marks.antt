@@ -1,0 +1,127 @@
+-- The marker of a transaction in a topic, and the table then.
+use Rattle.std.proofs.Common.{◌≡◌, ◌⊎◌, inl, inr, ℕ, suc, ◌+◌, ◌-◌, ◌<◌, ◌≤◌, ◌==◌, ◌&&◌, not, nat_le, Bool, true, false, if◌then◌else◌, List, [], ◌∷◌, ◌++◌, length, Option, Some, None, is_some, is_none, All, IsTrue, refl, sym, ap, ◌∙◌, subst, arith, append-nil}
+use Rattle.std.proofs.Math.ListN.{get_or}
+use Rattle.std.proofs.lemmas.Bool.Decides.{nat_tests}
+use Rattle.txn_base.specs.Decoded.{topic_entries}
+use Rattle.txn_base.specs.Content.{LedgerContent, settled, Appends, Backed}
+use Rattle.txn_base.specs.Disk.{Files, Since}
+use Rattle.txn_base.specs.Frames.{Batch as FrameBatch, records}
+use Rattle.txn_base.proofs.Moments.{started}
+use Rattle.txn_ledger.specs.Ledger.{IsFile, StandsIn}
+use Rattle.txn_base.specs.Names.{is_sub, is_topic_name}
+use Rattle.txn_base.specs.Records.{IsTxnId}
+use Rattle.txn_base.specs.declared.entry.TopicEntry.{TopicEntry}
+use Rattle.txn_base.specs.declared.txn.TxnId.{TxnId}
+use Rattle.txn_base.specs.declared.txn.Decision.{Decision}
+use Rattle.txn_base.specs.declared.txn.Decision.TheVariants.{Commit, Abort}
+use Rattle.txn_buffer.specs.View as topic
+use Rattle.txn_buffer.specs.View.{TopicView, batch_of, with_entries}
+use Rattle.txn_model.specs.Allowed.{IsAllowed}
+use Rattle.txn_model.specs.Coord.{decision_of}
+use Rattle.txn_model.specs.Names.{name_of}
+use Rattle.txn_model.specs.Skeletons.{coord_skeletons, topic_skeletons}
+use Rattle.txn_model.specs.Sound.{RecordsOf, IsBareRecord}
+use Rattle.txn_model.specs.Table.{TableState, Batch, nothing, in_topic, topic_marker, marker_batch, given_after, marked, fenced_by, settled as with_batch}
+use Rattle.txn_model.specs.Topic.{marker_of}
+use Rattle.txn_model.specs.Words.{nowhere, set_at}
+use Rattle.txn_model.specs.World.{Lawful, log_of, part_skeletons}
+use Rattle.txn_model.proofs.Grants.{Granted, topic_part}
+use Rattle.txn_model.proofs.LawfulMarks.{marker_granted}
+use Rattle.txn_records.specs.Topics.{marker_of as marker_entry}
+use Rattle.txn_engine.specs.Kept.{IsEngine}
+use Rattle.txn_engine.specs.Table.{table_of, world_of}
+use Rattle.txn_engine.specs.View.{EngineView, IsWhole, IsTied, with_topics, replaced}
+use Rattle.txn_engine.proofs.Bodies.{entries_back}
+use Rattle.txn_engine.proofs.Changed.{given_same, topic_added, topic_fenced}
+use Rattle.txn_engine.proofs.Lists.{front_at}
+use Rattle.txn_engine.proofs.TopicNames.{not_sub}
+use Rattle.txn_engine.proofs.Whole.{whole_world, whole_table, world_is, table_is}
+use Rattle.txn_engine.proofs.Worlds.{some_topic, name_at_index, stands_settled}
+
+-- ---- The entry, and its record.
+
+pub entry_is : (x : TxnId) (d : Decision) → marker_entry x d ≡ topic_marker x d
+entry_is x Commit = refl
+entry_is x Abort = refl
+
+pub marker_records : (x : TxnId) (d : Decision) → IsTxnId x → RecordsOf IsBareRecord (records (batch_of (marker_entry x d ∷ []) ∷ [])) (marker_entry x d ∷ [])
+marker_records x Commit fits = (record { of_entry = record { bytes_are = refl; fits = fits }; no_room = refl }, tt)
+marker_records x Abort fits = (record { of_entry = record { bytes_are = refl; fits = fits }; no_room = refl }, tt)
+
+-- ---- A ledger to which nothing is added.
+
+module _ {D : Type 0} (moment : D → ℕ) (image : D → Files → Type 0) (left_since : D → ℕ → Files → Type 0) where
+  pub appends_nothing : (content : LedgerContent) (batch : FrameBatch) (disk : D) → content.standing ≡ settled → Backed StandsIn (image disk) content → Since moment image left_since (Appends IsFile StandsIn content batch) disk disk
+  appends_nothing content batch disk is backed =
+      started moment image left_since disk (Appends IsFile StandsIn content batch)
+      (λ c at. record { here = inl (stands_settled (StandsIn content.key c) content.batches content.standing is (backed.each c at)); others = λ other not. refl })
+
+-- ---- The topic at an index.
+
+module _ (v : EngineView) (is : IsEngine v) (j : ℕ) (below : j < length v.topics) where
+  abbrev pub at : TopicView
+  at = get_or v.topics j (some_topic v)
+
+  name_is : (b : Bool) → ((1 + j) == 0) ≡ b → name_of v.names (1 + j) ≡ get_or v.names j []
+  name_is true e = absurd (never j e)
+    where
+      never : (j : ℕ) → ((1 + j) == 0) ≡ true → ⊥
+      never j e = grind (arith, nat_tests, e)
+  name_is false e = rw e (ap (λ (i : ℕ). get_or v.names i []) (back j))
+    where
+      back : (j : ℕ) → (1 + j) - 1 ≡ j
+      back j = omega arith
+
+  pub name_form : is_topic_name (name_of v.names (1 + j)) ≡ true
+  name_form = ap is_topic_name (name_is ((1 + j) == 0) refl) ∙ name_at_index v.names j (omega (arith, below, is.count)) is.topic_names
+
+  no_sub : is_sub (name_of v.names (1 + j)) ≡ false
+  no_sub = not_sub (name_of v.names (1 + j)) name_form
+
+  pub skeletons_at : part_skeletons (whole_world v) (1 + j) ≡ topic_skeletons at.front
+  skeletons_at = topic_part (whole_world v) (1 + j) no_sub ∙ ap topic_skeletons (front_at 1 v.topics j (some_topic v) (1 + j) refl below)
+
+  module _ (x : TxnId) (d : Decision) where
+    batch_by : (o : Option Decision) → marker_of (topic_skeletons at.front) x ≡ o → marker_batch (whole_table v) x d (1 + j) ≡ (if is_some o then nothing else in_topic (1 + j) (topic_marker x d ∷ []))
+    batch_by o e = rw (skeletons_at, e, no_sub) refl
+
+    pub batch_is : marker_of (topic_skeletons at.front) x ≡ None → marker_batch (whole_table v) x d (1 + j) ≡ in_topic (1 + j) (marker_entry x d ∷ [])
+    batch_is none = batch_by None none ∙ ap (λ (e : TopicEntry). in_topic (1 + j) (e ∷ [])) (sym (entry_is x d))
+
+    no_batch : (o : Option Decision) → marker_of (topic_skeletons at.front) x ≡ o → is_some o ≡ true → marker_batch (whole_table v) x d (1 + j) ≡ nothing
+    no_batch None e some = absurd (never some)
+      where
+        never : false ≡ true → ⊥
+        never e = cc
+    no_batch (Some k) e some = batch_by (Some k) e
+
+    given_is : (d : Decision) → given_after (whole_table v) x d (1 + j) ≡ (λ (s : ℕ). nowhere)
+    given_is Commit = refl
+    given_is Abort = given_same (1 + j)
+
+    marked_by : (b : Batch) → marker_batch (whole_table v) x d (1 + j) ≡ b → with_batch b (whole_table v) ≡ marked x d (1 + j) (whole_table v)
+    marked_by b e = λ i. record (with_batch (sym e i) (whole_table v)) { given = sym (given_is d) i }
+
+    -- it stands there already
+    pub stood_table : is_some (marker_of (topic_skeletons at.front) x) ≡ true → whole_table v ≡ marked x d (1 + j) (whole_table v)
+    stood_table some = marked_by nothing (no_batch (marker_of (topic_skeletons at.front) x) refl some)
+
+    module _ (whole : IsWhole v) (tied : IsTied v) (none : marker_of (topic_skeletons at.front) x ≡ None) where
+      -- it follows
+      pub marked_table : (t : TopicView) → t.front ≡ at.front ++ marker_entry x d ∷ [] → whole_table (with_topics v (replaced v.topics j t)) ≡ marked x d (1 + j) (whole_table v)
+      marked_table t front = topic_added v is whole tied j (some_topic v) below (marker_entry x d ∷ []) t front ∙ marked_by (in_topic (1 + j) (marker_entry x d ∷ [])) (batch_is none)
+
+      -- its append failed
+      pub marker_fenced : IsTxnId x → table_of (with_topics v (replaced v.topics j (topic.fenced at (marker_entry x d ∷ [])))) ≡ fenced_by (marker_batch (whole_table v) x d (1 + j)) (1 + j) (whole_table v)
+      marker_fenced fits =
+          topic_fenced v is whole tied j (some_topic v) below (marker_entry x d ∷ []) (entries_back (marker_entry x d ∷ []) (marker_records x d fits))
+          ∙ ap (λ (b : Batch). fenced_by b (1 + j) (whole_table v)) (sym (batch_is none))
+
+    -- ---- It is allowed over a lawful world.
+
+    pub marker_allowed : IsWhole v → IsTied v → decision_of (coord_skeletons v.coord.front) x ≡ Some d → marker_of (topic_skeletons at.front) x ≡ None → Lawful (world_of v) → IsAllowed (in_topic (1 + j) (marker_entry x d ∷ [])) (world_of v)
+    marker_allowed whole tied decided none lawful =
+        let same : world_of v ≡ whole_world v = world_is v is whole tied in
+        subst (IsAllowed (in_topic (1 + j) (marker_entry x d ∷ []))) (sym same)
+        (subst (λ (b : Batch). IsAllowed b (whole_world v)) (batch_is none)
+        (marker_granted (whole_table v) x d (1 + j) (subst Lawful same lawful) (omega arith) (omega (arith, below, is.count)) decided).allowed)

@@ -1,0 +1,41 @@
+use Rattle.std.proofs.Common.{rules, sym, subst}
+use Rattle.txn_engine.specs.View.{IsWhole}
+use Rattle.txn_engine.proofs.Decided.{engine_clause, decided_clause, whole_clause, ready_clause, granted_clause, settled_clause, refused_clause, goes_clause}
+use Rattle.txn_engine.proofs.engine.Engine.decide.Goals as goal
+
+pub invariant_of-self : goal.invariant_of-self
+invariant_of-self g c =
+    engine_clause _ c.self.invariant _ c.self.view_is c.requires.whole c.args.txn c.args.decision (search rules) c.decide.result c.decide.new.self c.decide.ensures.refused c.decide.ensures.repeated c.decide.ensures.ok c.decide.ensures.fault c.decide.ensures.same
+
+pub returns-clause-refused : goal.returns-clause-refused
+returns-clause-refused g c = λ tells tied.
+    refused_clause _ c.self.invariant _ c.self.view_is c.requires.whole c.args.txn c.args.decision (search rules) c.decide.result c.decide.new.self c.decide.ensures.refused c.decide.ensures.repeated c.decide.ensures.ok c.decide.ensures.fault c.decide.ensures.same
+    c.requires.own tied c.decide.ensures.tied _ _ _ _ c.decide.ensures.cause
+
+pub returns-clause-granted : goal.returns-clause-granted
+returns-clause-granted g c = λ tells tied.
+    granted_clause _ c.self.invariant _ c.self.view_is c.requires.whole c.args.txn c.args.decision (search rules) c.decide.result c.decide.new.self c.decide.ensures.refused c.decide.ensures.repeated c.decide.ensures.ok c.decide.ensures.fault c.decide.ensures.same
+    c.requires.own tied c.decide.ensures.tied
+
+pub returns-clause-settled : goal.returns-clause-settled
+returns-clause-settled g c = λ tells tied.
+    settled_clause _ c.self.invariant _ c.self.view_is c.requires.whole c.args.txn c.args.decision (search rules) c.decide.result c.decide.new.self c.decide.ensures.refused c.decide.ensures.repeated c.decide.ensures.ok c.decide.ensures.fault c.decide.ensures.same
+    c.requires.own tied c.decide.ensures.tied
+
+pub returns-clause-decided : goal.returns-clause-decided
+returns-clause-decided g c =
+    decided_clause _ c.self.invariant _ c.self.view_is c.requires.whole c.args.txn c.args.decision (search rules) c.decide.result c.decide.new.self c.decide.ensures.refused c.decide.ensures.repeated c.decide.ensures.ok c.decide.ensures.fault c.decide.ensures.same
+
+pub returns-clause-whole : goal.returns-clause-whole
+returns-clause-whole g c =
+    whole_clause _ c.self.invariant _ c.self.view_is c.requires.whole c.args.txn c.args.decision (search rules) c.decide.result c.decide.new.self c.decide.ensures.refused c.decide.ensures.repeated c.decide.ensures.ok c.decide.ensures.fault c.decide.ensures.same
+
+pub returns-clause-ready : goal.returns-clause-ready
+returns-clause-ready g c = λ ready.
+    ready_clause _ c.self.invariant _ c.self.view_is c.requires.whole c.args.txn c.args.decision (search rules) c.decide.result c.decide.new.self c.decide.ensures.refused c.decide.ensures.repeated c.decide.ensures.ok c.decide.ensures.fault c.decide.ensures.same
+    ready
+
+pub returns-clause-goes : goal.returns-clause-goes
+returns-clause-goes g c =
+    goes_clause _ c.self.invariant _ c.self.view_is c.requires.whole c.args.txn c.args.decision (search rules) c.decide.result c.decide.new.self c.decide.ensures.refused c.decide.ensures.repeated c.decide.ensures.ok c.decide.ensures.fault c.decide.ensures.same
+    g.D.Disk.moment g.D.Disk.image g.D.Disk.left_since g.D.Disk.faults g.D.Disk.part_faults c.args.disk.now c.decide.new.disk c.requires.backed c.decide.ensures.nothing c.decide.ensures.unwritten c.decide.ensures.tied c.decide.ensures.backed c.decide.ensures.images c.decide.ensures.cause
