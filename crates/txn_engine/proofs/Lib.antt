@@ -20,3 +20,4 @@ pub mod Same
 pub mod Marks
 pub mod Decided
 pub mod Parts
+pub mod Marked

@@ -1,5 +1,3 @@
-use Rattle.txn_engine.proofs.Same.{same_table, goes_same, same_engine, same_told}
-use Rattle.txn_engine.proofs.Decided.{ended_told, refused_told, foreign_told}
 use Rattle.std.proofs.Common.{◌∷◌, []}
 use Rattle.txn_buffer.specs.View.{batch_of}
 use Rattle.txn_records.specs.Topics.{marker_of as marker_entry}

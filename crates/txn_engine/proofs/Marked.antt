@@ -1,0 +1,221 @@
+-- How an engine goes on where one of its topics gets a marker.
+use Rattle.std.proofs.Common.{◌≡◌, ◌⊎◌, inl, inr, ℕ, zero, suc, ◌+◌, ◌<◌, Bool, true, false, List, [], ◌∷◌, ◌++◌, length, All, Option, Some, None, is_some, is_none, Result, Ok, Err, IsOk, IsErr, OnOk, OnErr, IsTrue, refl, sym, ap, ◌∙◌, subst, arith}
+use Rattle.std.proofs.Math.ListN.{get_or, set}
+use Rattle.txn_base.specs.declared.failed.Failed.{Failed}
+use Rattle.txn_base.specs.declared.file_id.FileId.{FileId}
+use Rattle.txn_base.specs.declared.entry.TopicEntry.{TopicEntry}
+use Rattle.txn_base.specs.declared.txn.TxnId.{TxnId}
+use Rattle.txn_base.specs.declared.txn.Decision.{Decision}
+use Rattle.txn_base.specs.Content.{settled, Appends, Backed}
+use Rattle.txn_base.specs.Disk.{Files, Since, CountsFaults}
+use Rattle.txn_base.specs.Outside.{Rose}
+use Rattle.txn_base.specs.Records.{IsTxnId}
+use Rattle.txn_buffer.specs.View as topic
+use Rattle.txn_buffer.specs.View.{TopicView, batch_of, with_entries}
+use Rattle.txn_ledger.specs.Ledger.{IsFile, StandsIn}
+use Rattle.txn_model.specs.Coord.{decision_of}
+use Rattle.txn_model.specs.Skeletons.{coord_skeletons, topic_skeletons}
+use Rattle.txn_model.specs.Sound.{ledger_file}
+use Rattle.txn_model.specs.Table.{TableState, marker_batch, marked, fenced_by}
+use Rattle.txn_model.specs.Topic.{marker_of}
+use Rattle.txn_model.specs.World.{part_skeletons}
+use Rattle.txn_records.specs.Topics.{marker_of as marker_entry}
+use Rattle.txn_engine.specs.Kept.{IsTopic, IsEngine}
+use Rattle.txn_engine.specs.Table.{table_of}
+use Rattle.txn_engine.specs.Told.{RoseFor, Goes}
+use Rattle.txn_engine.specs.View.{EngineView, IsWhole, IsTied, IsBacked, with_topics, replaced}
+use Rattle.txn_engine.proofs.Decided.{on_ok, by_result}
+use Rattle.txn_engine.proofs.Going.{goes_still, topic_goes}
+use Rattle.txn_engine.proofs.Lists.{never_below, set_is, length_replaced, all_replaced, at_index}
+use Rattle.txn_engine.proofs.Marks.{skeletons_at, stood_table, marked_table, marker_fenced, marker_allowed, marker_records}
+use Rattle.txn_engine.proofs.Published.{added_topic, fenced_topic, engine_topics, put_back}
+use Rattle.txn_engine.proofs.Reading.{IsAt, at_place, is_topic_at}
+use Rattle.txn_engine.proofs.Whole.{whole_table, table_is}
+use Rattle.txn_engine.proofs.Worlds.{some_topic}
+
+-- ---- Another topic at an index.
+
+pub at_replaced : (ts : List TopicView) (j : ℕ) (t d : TopicView) → j < length ts → get_or (replaced ts j t) j d ≡ t
+at_replaced [] j t d h = absurd (never_below j h)
+at_replaced (u ∷ us) zero t d h = refl
+at_replaced (u ∷ us) (suc j) t d h = at_replaced us j t d (omega (arith, h))
+
+pub past_replaced : (ts : List TopicView) (i j : ℕ) (t d : TopicView) → (i ≡ j → ⊥) → get_or (replaced ts j t) i d ≡ get_or ts i d
+past_replaced [] i j t d apart = refl
+past_replaced (u ∷ us) zero zero t d apart = absurd (apart refl)
+past_replaced (u ∷ us) zero (suc j) t d apart = refl
+past_replaced (u ∷ us) (suc i) zero t d apart = refl
+past_replaced (u ∷ us) (suc i) (suc j) t d apart = past_replaced us i j t d (λ e. apart (ap suc e))
+
+ok_no_err : (r : Result (Unit {0}) Failed) → IsOk r → IsErr r → ⊥
+ok_no_err (Ok a) ok err = cc
+ok_no_err (Err e) ok err = cc
+
+is_ok_of : (r : Result (Unit {0}) Failed) (a : Unit {0}) → r ≡ Ok a → IsOk r
+is_ok_of (Ok b) a e = refl
+is_ok_of (Err y) a e = cc
+
+is_err_of : (r : Result (Unit {0}) Failed) (e : Failed) → r ≡ Err e → IsErr r
+is_err_of (Ok b) y e = cc
+is_err_of (Err z) y e = refl
+
+pub on_err : (r : Result (Unit {0}) Failed) (P : Type 0) → (IsErr r → P) → OnErr r P
+on_err (Ok a) P h = tt
+on_err (Err e) P h = h refl
+
+from_ok_err : (r : Result (Unit {0}) Failed) (P : Type 0) → IsErr r → OnErr r P → P
+from_ok_err (Ok a) P is h = cc
+from_ok_err (Err e) P is h = h
+
+-- ---- The topic at an index of a whole engine.
+
+pub length_at : (v w : EngineView) (j : ℕ) → v ≡ w → j < length w.topics → j < length v.topics
+length_at v w j e h = subst (λ (z : EngineView). j < length z.topics) (sym e) h
+
+pub at_view : (v w : EngineView) → v ≡ w → (j : ℕ) (t : TopicView) → j < length v.topics → t ≡ get_or v.topics j t → IsAt v j t
+at_view v w e j t below same = at_place v j t below same
+
+pub settled_at : (v : EngineView) → IsEngine v → IsWhole v → (j : ℕ) → j < length v.topics → (t : TopicView) → IsAt v j t → t.content.standing ≡ settled
+settled_at v is whole j below t at = (is_topic_at v is j t below at).settled_is (subst (λ (k : TopicView). IsTrue k.whole) at (at_index (λ t. IsTrue t.whole) v.topics j (some_topic v) below whole.topics))
+
+-- ---- A topic that gets a marker.
+
+module _ (v : EngineView) (is : IsEngine v) (w : EngineView) (view : v ≡ w) (whole' : IsWhole w) (j : ℕ) (below : j < length v.topics) (x : TxnId) (d : Decision) (fits : IsTxnId x) (decided' : decision_of (coord_skeletons w.coord.front) x ≡ Some d)
+    (t t' : TopicView) (at : IsAt v j t) (r : Result (Unit {0}) Failed) where
+  whole : IsWhole v
+  whole = subst IsWhole (sym view) whole'
+
+  decided : decision_of (coord_skeletons v.coord.front) x ≡ Some d
+  decided = subst (λ (z : EngineView). decision_of (coord_skeletons z.coord.front) x ≡ Some d) (sym view) decided'
+
+  abbrev es : List TopicEntry
+  es = marker_entry x d ∷ []
+
+  abbrev u : EngineView
+  u = with_topics v (replaced v.topics j t')
+
+  one : IsTopic v.limits (1 + j) t
+  one = is_topic_at v is j t below at
+
+  whole_one : IsTrue t.whole
+  whole_one = subst (λ (k : TopicView). IsTrue k.whole) at (at_index (λ t. IsTrue t.whole) v.topics j (some_topic v) below whole.topics)
+
+  at_marker : (o : Option Decision) → marker_of (topic_skeletons t.front) x ≡ o → marker_of (topic_skeletons (get_or v.topics j (some_topic v)).front) x ≡ o
+  at_marker o e = ap (λ (k : TopicView). marker_of (topic_skeletons k.front) x) at ∙ e
+
+  -- the three ways
+  pub data Way (same : Type 0) : Type 0 where
+    stands : is_some (marker_of (topic_skeletons t.front) x) ≡ true → IsOk r → t' ≡ t → same → Way same
+    follows : marker_of (topic_skeletons t.front) x ≡ None → IsOk r → t' ≡ with_entries t es 0 → Way same
+    fails : marker_of (topic_skeletons t.front) x ≡ None → IsErr r → t' ≡ topic.fenced t es → Way same
+
+  pub way_of : (same : Type 0) → (is_some (marker_of (topic_skeletons t.front) x) ≡ true → IsOk r × (t' ≡ t) × same) → OnOk r (marker_of (topic_skeletons t.front) x ≡ None → t' ≡ with_entries t es 0)
+      → OnErr r ((marker_of (topic_skeletons t.front) x ≡ None) × (t' ≡ topic.fenced t es)) → Way same
+  way_of same stood ok err = by_marker (marker_of (topic_skeletons t.front) x) refl
+    where
+      by_marker : (o : Option Decision) → marker_of (topic_skeletons t.front) x ≡ o → Way same
+      by_marker (Some k) e = let s = stood (ap is_some e) in stands (ap is_some e) s.0 s.1 s.2
+      by_marker None e =
+          by_result r (Way same) (λ a is_ok. follows e (is_ok_of r a is_ok) (subst (λ (q : Result (Unit {0}) Failed). OnOk q (marker_of (topic_skeletons t.front) x ≡ None → t' ≡ with_entries t es 0)) is_ok ok e))
+          (λ y is_err. fails e (is_err_of r y is_err) (from_ok_err r ((marker_of (topic_skeletons t.front) x ≡ None) × (t' ≡ topic.fenced t es)) (is_err_of r y is_err) err).1)
+
+  module _ (same : Type 0) (way : Way same) where
+    topic_by : Way same → IsTopic v.limits (1 + j) t'
+    topic_by (stands m ok e s) = subst (IsTopic v.limits (1 + j)) (sym e) one
+    topic_by (follows m ok e) = subst (IsTopic v.limits (1 + j)) (sym e) (added_topic v.limits (1 + j) t es 0 one whole_one)
+    topic_by (fails m err e) = subst (IsTopic v.limits (1 + j)) (sym e) (fenced_topic v.limits (1 + j) t es one)
+
+    engine_is : IsEngine u
+    engine_is = engine_topics v is j t' (topic_by way)
+
+    whole_by : Way same → IsTrue t'.whole ⊎ IsErr r
+    whole_by (stands m ok e s) = inl (subst (λ (k : TopicView). IsTrue k.whole) (sym e) whole_one)
+    whole_by (follows m ok e) = inl (subst (λ (k : TopicView). IsTrue k.whole) (sym e) whole_one)
+    whole_by (fails m err e) = inr err
+
+    module _ (tied : IsTied v) (tie : topic.IsFrontOf t → topic.IsFrontOf t') where
+      tied_after : IsTied u
+      tied_after = record {
+        coord = tied.coord;
+        topics = all_replaced topic.IsFrontOf v.topics j t' (tie (subst topic.IsFrontOf at (at_index topic.IsFrontOf v.topics j (some_topic v) below tied.topics))) tied.topics;
+      }
+
+      ok_by : Way same → IsOk r → table_of u ≡ marked x d (1 + j) (table_of v)
+      ok_by (stands m ok e s) is_ok =
+          ap table_of (put_back v j t t' at e) ∙ table_is v is whole tied
+          ∙ stood_table v is j below x d (ap is_some (at_marker (marker_of (topic_skeletons t.front) x) refl) ∙ m) ∙ ap (marked x d (1 + j)) (sym (table_is v is whole tied))
+      ok_by (follows m ok e) is_ok =
+          table_is u engine_is (record { coord = whole.coord; topics = all_replaced (λ t. IsTrue t.whole) v.topics j t' (subst (λ (k : TopicView). IsTrue k.whole) (sym e) whole_one) whole.topics }) tied_after
+          ∙ marked_table v is j below x d whole tied (at_marker None m) t' (ap (λ (k : TopicView). k.front) e ∙ ap (λ (k : TopicView). k.front ++ es) (sym at))
+          ∙ ap (marked x d (1 + j)) (sym (table_is v is whole tied))
+      ok_by (fails m err e) is_ok = absurd (ok_no_err r is_ok err)
+
+      pub ok_marked : OnOk r (table_of u ≡ marked x d (1 + j) (table_of v))
+      ok_marked = on_ok r (table_of u ≡ marked x d (1 + j) (table_of v)) (λ a e. ok_by way (is_ok_of r a e))
+
+      err_by : Way same → IsErr r → (is_none (marker_of (part_skeletons (table_of v).world (1 + j)) x) ≡ true) × (table_of u ≡ fenced_by (marker_batch (table_of v) x d (1 + j)) (1 + j) (table_of v))
+      err_by (stands m ok e s) err = absurd (ok_no_err r ok err)
+      err_by (follows m ok e) err = absurd (ok_no_err r ok err)
+      err_by (fails m err' e) err =
+          let here : table_of v ≡ whole_table v = table_is v is whole tied in (
+            ap (λ (s : TableState). is_none (marker_of (part_skeletons s.world (1 + j)) x)) here ∙ ap (λ k. is_none (marker_of k x)) (skeletons_at v is j below) ∙ ap is_none (at_marker None m),
+            ap (λ (k : TopicView). table_of (with_topics v (replaced v.topics j k))) (e ∙ ap (λ (k : TopicView). topic.fenced k es) (sym at))
+            ∙ marker_fenced v is j below x d whole tied (at_marker None m) fits ∙ ap (λ (s : TableState). fenced_by (marker_batch s x d (1 + j)) (1 + j) s) (sym here),
+          )
+
+      pub err_fenced : OnErr r ((is_none (marker_of (part_skeletons (table_of v).world (1 + j)) x) ≡ true) × (table_of u ≡ fenced_by (marker_batch (table_of v) x d (1 + j)) (1 + j) (table_of v)))
+      err_fenced = on_err r ((is_none (marker_of (part_skeletons (table_of v).world (1 + j)) x) ≡ true) × (table_of u ≡ fenced_by (marker_batch (table_of v) x d (1 + j)) (1 + j) (table_of v))) (err_by way)
+
+    -- ---- How it goes on.
+
+    module _ {D : Type 0} (moment : D → ℕ) (image : D → Files → Type 0) (left_since : D → ℕ → Files → Type 0) (faults : D → ℕ) (part_faults : D → ℕ → ℕ) (old new : D) (backed : IsBacked (image old) v) (still : same → new ≡ old)
+        (tie : topic.IsFrontOf t → topic.IsFrontOf t') (here : Backed StandsIn (image new) t'.content) (since : Since moment image left_since (Appends IsFile StandsIn t.content (batch_of es)) old new)
+        (cause : CountsFaults t.content.key.part (faults old) (faults new) (part_faults old) (part_faults new) (IsErr r)) where
+      follows_goes : marker_of (topic_skeletons t.front) x ≡ None → Goes moment image left_since faults part_faults (IsErr r) v u old new
+      follows_goes m =
+          topic_goes moment image left_since faults part_faults v is whole old new backed j below (IsErr r) (IsErr r) es t' u
+          (ap (λ (k : TopicView). k.content.key) at ∙ one.key) (marker_records x d fits) (λ tied. marker_allowed v is j below x d whole tied decided (at_marker None m)) refl refl refl (whole_by way)
+          (λ was. tie (subst topic.IsFrontOf at was)) here (subst (λ (k : TopicView). Since moment image left_since (Appends IsFile StandsIn k.content (batch_of es)) old new) (sym at) since)
+          (subst (λ (k : TopicView). CountsFaults k.content.key.part (faults old) (faults new) (part_faults old) (part_faults new) (IsErr r)) (sym at) cause) (λ h. h)
+
+      goes_by : Way same → Goes moment image left_since faults part_faults (IsErr r) v u old new
+      goes_by (stands m ok e s) =
+          subst (λ (d : D). Goes moment image left_since faults part_faults (IsErr r) v u old d) (sym (still s))
+          (goes_still moment image left_since faults part_faults (IsErr r) (ok_no_err r ok) v u old whole backed refl refl (ap (λ (z : EngineView). z.topics) (put_back v j t t' at e)))
+      goes_by (follows m ok e) = follows_goes m
+      goes_by (fails m err e) = follows_goes m
+
+      pub marked_goes : Goes moment image left_since faults part_faults (IsErr r) v u old new
+      marked_goes = goes_by way
+
+    -- ---- The clauses, over an equal view, and the topics after a write by index.
+
+    abbrev u' : EngineView
+    u' = with_topics v (set v.topics j t')
+
+    put : u ≡ u'
+    put = ap (λ (ts : List TopicView). with_topics v ts) (sym (set_is v.topics j t'))
+
+    pub engine_clause : IsEngine u'
+    engine_clause = subst IsEngine put engine_is
+
+    pub ok_clause : IsTied w → (topic.IsFrontOf t → topic.IsFrontOf t') → OnOk r (table_of u' ≡ marked x d (1 + j) (table_of w))
+    ok_clause tied tie =
+        subst (λ (z : EngineView). OnOk r (table_of u' ≡ marked x d (1 + j) (table_of z))) view
+        (subst (λ (z : EngineView). OnOk r (table_of z ≡ marked x d (1 + j) (table_of v))) put (ok_marked (subst IsTied (sym view) tied) tie))
+
+    pub err_clause : IsTied w → (topic.IsFrontOf t → topic.IsFrontOf t') → OnErr r ((is_none (marker_of (part_skeletons (table_of w).world (1 + j)) x) ≡ true) × (table_of u' ≡ fenced_by (marker_batch (table_of w) x d (1 + j)) (1 + j) (table_of w)))
+    err_clause tied tie =
+        subst (λ (z : EngineView). OnErr r ((is_none (marker_of (part_skeletons (table_of z).world (1 + j)) x) ≡ true) × (table_of u' ≡ fenced_by (marker_batch (table_of z) x d (1 + j)) (1 + j) (table_of z)))) view
+        (subst (λ (z : EngineView). OnErr r ((is_none (marker_of (part_skeletons (table_of v).world (1 + j)) x) ≡ true) × (table_of z ≡ fenced_by (marker_batch (table_of v) x d (1 + j)) (1 + j) (table_of v)))) put (err_fenced (subst IsTied (sym view) tied) tie))
+
+    pub rose_clause : (f g : ℕ) (fs gs : ℕ → ℕ) → CountsFaults t.content.key.part f g fs gs (IsErr r) → OnErr r (RoseFor f g fs gs (1 + j))
+    rose_clause f g fs gs cause = on_err r (RoseFor f g fs gs (1 + j)) (λ err. subst (λ (k : FileId). Rose f g × Rose (fs k.part) (gs k.part)) one.key (cause.failed err))
+
+    pub goes_clause : {D : Type 0} (moment : D → ℕ) (image : D → Files → Type 0) (left_since : D → ℕ → Files → Type 0) (faults : D → ℕ) (part_faults : D → ℕ → ℕ) (old new : D) → IsBacked (image old) w → (same → new ≡ old)
+        → (topic.IsFrontOf t → topic.IsFrontOf t') → Backed StandsIn (image new) t'.content → Since moment image left_since (Appends IsFile StandsIn t.content (batch_of es)) old new
+        → CountsFaults t.content.key.part (faults old) (faults new) (part_faults old) (part_faults new) (IsErr r) → Goes moment image left_since faults part_faults (IsErr r) w u' old new
+    goes_clause moment image left_since faults part_faults old new backed still tie here since cause =
+        subst (λ (z : EngineView). Goes moment image left_since faults part_faults (IsErr r) z u' old new) view
+        (subst (λ (z : EngineView). Goes moment image left_since faults part_faults (IsErr r) v z old new) put
+        (marked_goes moment image left_since faults part_faults old new (subst (IsBacked (image old)) (sym view) backed) still tie here since cause))
