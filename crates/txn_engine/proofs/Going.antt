@@ -46,7 +46,7 @@ counts_of n part f g fs gs X Y within means h = record {
     apart : (p part n : ℕ) → part ≤ n → n < p → p ≡ part → ⊥
     apart p part n within past same = omega (arith, within, past, same)
 
-rose_then : (a b c : ℕ) → a ≤ b → Rose b c → Rose a c
+pub rose_then : (a b c : ℕ) → a ≤ b → Rose b c → Rose a c
 rose_then a b c le rose = grind (arith, le, rose)
 
 pub counts_then : (n f g h : ℕ) (fs gs hs : ℕ → ℕ) (X Y : Type 0) → CountsWithin n f g fs gs X → CountsWithin n g h gs hs Y → CountsWithin n f h fs hs Y

@@ -21,3 +21,4 @@ pub mod Marks
 pub mod Decided
 pub mod Parts
 pub mod Marked
+pub mod MarkLoop

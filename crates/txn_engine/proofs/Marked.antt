@@ -63,7 +63,7 @@ pub on_err : (r : Result (Unit {0}) Failed) (P : Type 0) → (IsErr r → P) →
 on_err (Ok a) P h = tt
 on_err (Err e) P h = h refl
 
-from_ok_err : (r : Result (Unit {0}) Failed) (P : Type 0) → IsErr r → OnErr r P → P
+pub from_ok_err : (r : Result (Unit {0}) Failed) (P : Type 0) → IsErr r → OnErr r P → P
 from_ok_err (Ok a) P is h = cc
 from_ok_err (Err e) P is h = h
 
