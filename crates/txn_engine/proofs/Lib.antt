@@ -22,3 +22,5 @@ pub mod Decided
 pub mod Parts
 pub mod Marked
 pub mod MarkLoop
+pub mod Reserved
+pub mod Closing

@@ -17,7 +17,7 @@ ghost use Rattle.txn_model.specs.Coord.{decision_of, closing_of, parts_of, close
 ghost use Rattle.txn_model.specs.Drive.{MarksAll, StopsWithin, Drives};
 ghost use Rattle.txn_model.specs.Replies.{is_fault, is_stopped};
 ghost use Rattle.txn_model.specs.Skeletons.{coord_skeletons, topic_skeletons};
-ghost use Rattle.txn_model.specs.Table.{marker_batch, marked, fenced_by, decision_batch, settled as with_batch};
+ghost use Rattle.txn_model.specs.Table.{marker_batch, marked, fenced_by, decision_batch, closing_batch, settled as with_batch};
 ghost use Rattle.txn_model.specs.Topic.{marker_of};
 ghost use Rattle.txn_model.specs.World.{part_skeletons};
 
@@ -111,13 +111,30 @@ impl Engine {
         if let Err(at) = self.mark_all(disk, txn, decision) {
             return stuck(decision, self.names[at].as_str(), room);
         }
-        match self.coordinator.close(disk, txn) {
-            Ok(()) => Outcome {
-                status: closed(decision),
-                stuck: None,
-            },
-            Err(Failed) => stuck(decision, COORDINATOR, room),
+        if self.close(disk, txn, decision).is_err() {
+            return stuck(decision, COORDINATOR, room);
         }
+        Outcome {
+            status: closed(decision),
+            stuck: None,
+        }
+    }
+
+    /// Closes a decided transaction, each part of which has its marker.
+    fn close<D: Disk>(&mut self, disk: &mut D, txn: TxnId, decision: Decision) -> Result<(), Failed>
+        requires decided { decision_of (coord_skeletons self.old.coord.front) txn ≡ Some decision }
+        requires unclosed { closing_of (coord_skeletons self.old.coord.front) txn ≡ None }
+        requires marked { AreMarked txn self.old (length self.old.topics) }
+        requires reserved { self.old.coord.reserved ≡ 1 }
+        requires whole { IsWhole self.old }
+        requires backed { IsBacked (D.image disk.old) self.old }
+        ensures ok { D.tells → IsTied self.old → OnOk result (table_of self.new ≡ with_batch (closing_batch txn decision) (table_of self.old)) }
+        ensures err { D.tells → IsTied self.old → OnErr result (table_of self.new ≡ fenced_by (closing_batch txn decision) 0 (table_of self.old)) }
+        ensures rose { OnErr result (RoseFor (D.faults disk.old) (D.faults disk.new) (D.part_faults disk.old) (D.part_faults disk.new) 0) }
+        ensures goes { Goes D.moment D.image D.left_since D.faults D.part_faults (IsErr result) self.old self.new disk.old disk.new }
+    {
+        let _ = decision;
+        self.coordinator.close(disk, txn)
     }
 
     /// Gives each part of a transaction its marker, in order of number, but for those that have one. Err tells the index of
@@ -172,11 +189,22 @@ impl Engine {
         let mut at = 0;
         while at < self.topics.len() {
             if has_part(parts, at + 1) {
-                self.topics[at].reserve_end()?;
+                self.reserve_at(at)?;
             }
             at += 1;
         }
         self.coordinator.reserve_close()
+    }
+
+    /// Takes the memory of an end at the topic at an index.
+    fn reserve_at(&mut self, at: usize) -> Result<(), AllocError>
+        requires below { at < length self.old.topics }
+        requires whole { IsWhole self.old }
+        ensures same { IsSameBut self.old self.new }
+        ensures reserved { OnOk result ((t : TopicView) → (slice_index_or self.new.topics at t).reserved ≡ 1) }
+        ensures elsewhere { IsElsewhere at self.old self.new }
+    {
+        self.topics[at].reserve_end()
     }
 
     /// It is closed.
