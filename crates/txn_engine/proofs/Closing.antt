@@ -108,6 +108,16 @@ skeleton_is x Abort = refl
 batch_is : (x : TxnId) (d : Decision) → closing_batch x d ≡ in_coord (closing_entry x d)
 batch_is x d = refl
 
+-- over an equal view
+pub undriven_at : (v : EngineView) → IsEngine v → (w : EngineView) → v ≡ w → (x : TxnId) (d : Decision) → decision_of (coord_skeletons w.coord.front) x ≡ Some d → closing_of (coord_skeletons w.coord.front) x ≡ None → is_undriven (status_of (coord_skeletons v.coord.front) x) ≡ true
+undriven_at v is w view x d decided unclosed =
+    undriven (length v.names) (coord_skeletons v.coord.front) is.coord.lawful x d (subst (λ (z : EngineView). decision_of (coord_skeletons z.coord.front) x ≡ Some d) (sym view) decided)
+    (subst (λ (z : EngineView). closing_of (coord_skeletons z.coord.front) x ≡ None) (sym view) unclosed)
+
+pub closed_at : (v : EngineView) → IsEngine v → (w : EngineView) → v ≡ w → (x : TxnId) (s : Option Status) → s ≡ status_of (coord_skeletons v.coord.front) x → is_some (closing_of (coord_skeletons w.coord.front) x) ≡ is_closed s
+closed_at v is w view x s e =
+    ap (λ (z : EngineView). is_some (closing_of (coord_skeletons z.coord.front) x)) (sym view) ∙ sym (closed_is (length v.names) (coord_skeletons v.coord.front) is.coord.lawful x) ∙ ap is_closed (sym e)
+
 -- ---- It is closed.
 
 module _ (v : EngineView) (is : IsEngine v) (w : EngineView) (view : v ≡ w) (whole' : IsWhole w) (x : TxnId) (d : Decision) (fits : IsTxnId x) (decided' : decision_of (coord_skeletons w.coord.front) x ≡ Some d) (unclosed' : closing_of (coord_skeletons w.coord.front) x ≡ None)

@@ -51,11 +51,11 @@ ok_no_err : (r : Result (Unit {0}) Failed) → IsOk r → IsErr r → ⊥
 ok_no_err (Ok a) ok err = cc
 ok_no_err (Err e) ok err = cc
 
-is_ok_of : (r : Result (Unit {0}) Failed) (a : Unit {0}) → r ≡ Ok a → IsOk r
+pub is_ok_of : (r : Result (Unit {0}) Failed) (a : Unit {0}) → r ≡ Ok a → IsOk r
 is_ok_of (Ok b) a e = refl
 is_ok_of (Err y) a e = cc
 
-is_err_of : (r : Result (Unit {0}) Failed) (e : Failed) → r ≡ Err e → IsErr r
+pub is_err_of : (r : Result (Unit {0}) Failed) (e : Failed) → r ≡ Err e → IsErr r
 is_err_of (Ok b) y e = cc
 is_err_of (Err z) y e = refl
 
