@@ -24,3 +24,5 @@ pub mod Marked
 pub mod MarkLoop
 pub mod Reserved
 pub mod Closing
+pub mod Driving
+pub mod Ended

@@ -72,6 +72,9 @@ module _ (v : EngineView) (is : IsEngine v) (j : ℕ) (below : j < length v.topi
       back : (j : ℕ) → (1 + j) - 1 ≡ j
       back j = omega arith
 
+  pub name_here : name_of v.names (1 + j) ≡ get_or v.names j []
+  name_here = name_is ((1 + j) == 0) refl
+
   pub name_form : is_topic_name (name_of v.names (1 + j)) ≡ true
   name_form = ap is_topic_name (name_is ((1 + j) == 0) refl) ∙ name_at_index v.names j (omega (arith, below, is.count)) is.topic_names
 

@@ -9,11 +9,13 @@ ghost use Rattle.txn_buffer.specs.View.{TopicView, IsFrontOf, batch_of, with_ent
 ghost use Rattle.txn_ledger.specs.Ledger.{StandsIn, IsFile};
 ghost use Rattle.txn_records.specs.Topics.{marker_of as marker_entry};
 ghost use Rattle.txn_engine.specs.Ending.{end_of, IsSameBut, AreReady, IsReady, AreMarked, IsElsewhere, IsTellableEnd, IsGranted};
+ghost use Rattle.txn_engine.specs.Kept.{IsEngine};
 ghost use Rattle.txn_engine.specs.Refusals.{coord_refusal};
 ghost use Rattle.txn_engine.specs.Table.{table_of};
 ghost use Rattle.txn_engine.specs.Told.{MayTell, IsTellable, Goes, RoseFor};
 ghost use Rattle.txn_engine.specs.View.{IsWhole, IsTied, IsBacked};
 ghost use Rattle.txn_model.specs.Coord.{decision_of, closing_of, parts_of, closed, deciding};
+ghost use Rattle.txn_model.specs.Deadlines.{is_closed};
 ghost use Rattle.txn_model.specs.Drive.{MarksAll, StopsWithin, Drives};
 ghost use Rattle.txn_model.specs.Replies.{is_fault, is_stopped};
 ghost use Rattle.txn_model.specs.Skeletons.{coord_skeletons, topic_skeletons};
@@ -207,14 +209,12 @@ impl Engine {
         self.topics[at].reserve_end()
     }
 
-    /// It is closed.
+    /// It is closed. The further clause says what always holds of an engine.
     fn is_closed(&self, txn: TxnId) -> bool
-        ensures { result ≡ is_some (closing_of (coord_skeletons self.now.coord.front) txn) }
+        ensures value { result ≡ is_some (closing_of (coord_skeletons self.now.coord.front) txn) }
+        ensures kept { IsEngine self.now }
     {
-        matches!(
-            self.coordinator.status(txn),
-            Some(Status::Committed | Status::Aborted)
-        )
+        is_closed(self.coordinator.status(txn))
     }
 }
 
@@ -237,6 +237,13 @@ fn mark_topic<D: Disk>(topic: &mut Topic<Ledger>, disk: &mut D, txn: TxnId, deci
         return Ok(());
     }
     topic.finish(disk, txn, decision)
+}
+
+/// It is the status of a transaction that is closed.
+fn is_closed(status: Option<Status>) -> bool
+    ensures { result ≡ is_closed status }
+{
+    matches!(status, Some(Status::Committed | Status::Aborted))
 }
 
 /// The status of a transaction that was closed by this decision.
