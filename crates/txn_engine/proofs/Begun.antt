@@ -260,7 +260,7 @@ kept_by v is c' entry coord_error.BadTimeout fault same = subst (IsCoordinator v
 kept_by v is c' entry (coord_error.Full what count) fault same = subst (IsCoordinator v.limits (length v.names)) (sym (same (λ f. cc))) is.coord
 kept_by v is c' entry coord_error.NoMemory fault same = subst (IsCoordinator v.limits (length v.names)) (sym (same (λ f. cc))) is.coord
 
-tellable_refusal : (e : CoordError) → IsTellable (reply.No (coord_refusal e))
+pub tellable_refusal : (e : CoordError) → IsTellable (reply.No (coord_refusal e))
 tellable_refusal coord_error.NotFound short = tt
 tellable_refusal (coord_error.NotOpen status) short = tt
 tellable_refusal coord_error.BadTimeout short = tt

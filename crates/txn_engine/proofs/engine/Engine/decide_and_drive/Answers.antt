@@ -1,2 +1,28 @@
-use Rattle.txn_engine.proofs.Ended.{ended_told}
+use Rattle.std.proofs.Common.{sym, subst, ap}
+use Rattle.txn_base.specs.declared.reply.Refusal.{Refusal}
+use Rattle.txn_base.specs.declared.reply.Reply.TheVariants as reply
+use Rattle.txn_engine.specs.Told.{IsTellable}
+use Rattle.txn_engine.proofs.AtView.{tell_at}
+use Rattle.txn_engine.proofs.Begun.{tellable_refusal}
+use Rattle.txn_engine.proofs.Driving.{rose_later}
+use Rattle.txn_engine.proofs.Ended.{ended_told, refused_goes}
+use Rattle.txn_engine.proofs.Going.{goes_then}
 use Rattle.txn_engine.proofs.engine.Engine.decide_and_drive.Goals as goal
+
+pub returns-in-Ok-clause-told : goal.returns-in-Ok-clause-told
+returns-in-Ok-clause-told g c = λ tells tied now.
+    let went = c.in-Ok.ensures.goes in
+    ended_told _ _ (g.D.Disk.part_faults c.args.disk.now) (g.D.Disk.part_faults c.drive.new.disk) c.args.self.now c.args.txn c.args.decision now (c.in-Ok.ensures.granted tells tied) c.decide.new.self c.drive.new.self (c.in-Ok.ensures.settled tells tied) _
+    (λ p grew. rose_later p _ _ _ (g.D.Disk.part_faults c.args.disk.now) (g.D.Disk.part_faults c.decide.new.disk) (g.D.Disk.part_faults c.drive.new.disk) went.cause.later (went.cause.parts_later p) grew)
+    c.drive.result (c.drive.ensures.told tells (went.tied tied))
+
+pub returns-in-Ok-clause-goes : goal.returns-in-Ok-clause-goes
+returns-in-Ok-clause-goes g c =
+    goes_then g.D.Disk.moment g.D.Disk.image g.D.Disk.left_since g.D.Disk.faults g.D.Disk.part_faults _ _ c.args.self.now c.decide.new.self c.drive.new.self c.args.disk.now c.decide.new.disk c.drive.new.disk c.in-Ok.ensures.goes c.drive.ensures.goes
+
+pub returns-in-Err-clause-told : goal.returns-in-Err-clause-told
+returns-in-Err-clause-told g c = λ tells tied now.
+    tell_at _ _ (g.D.Disk.part_faults c.args.disk.now) (g.D.Disk.part_faults c.decide.new.disk) _ _ _ _ _ _ (ap (λ (row : Refusal). reply.No row) (sym c.coord_refusal.ensures)) (c.in-Err.ensures.refused tells tied now)
+
+pub returns-in-Err-clause-tellable : goal.returns-in-Err-clause-tellable
+returns-in-Err-clause-tellable g c = subst (λ (row : Refusal). IsTellable (reply.No row)) (sym c.coord_refusal.ensures) (tellable_refusal c.in-Err.error)
