@@ -60,13 +60,13 @@ def some_number(rng):
 
 
 def some_id(rng):
-    return f"[{some_number(rng)},{some_number(rng)}]"
+    return f"[0,{rng.randrange(8)}]" if rng.random() < 0.8 else f"[{some_number(rng)},{some_number(rng)}]"
 
 
 VALUES = {
     "timeout": some_number, "place": some_number, "from": some_number, "max": some_number,
     "txn": some_id, "topic": some_topic, "data": some_data,
-    "part": lambda rng: spelled(rng, some_text(rng)), "sub": lambda rng: spelled(rng, some_text(rng)),
+    "part": some_topic, "sub": lambda rng: spelled(rng, some_text(rng)),
     "places": lambda rng: "[" + ",".join(some_number(rng) for _ in range(rng.randrange(4))) + "]",
 }
 
@@ -75,7 +75,7 @@ def some_form(rng):
     """The keys and values of a form, those of publishes and reads more often than others."""
     name = rng.choice(["publish", "publish", "read", "read", "read"]) if rng.random() < 0.8 else rng.choice(list(grammar.FORMS))
     needed, allowed = grammar.FORMS[name]
-    keys = list(needed) + [key for key in allowed if rng.random() < (0.02 if name == "publish" else 0.5)]
+    keys = list(needed) + [key for key in allowed if rng.random() < (0.2 if name == "publish" else 0.5)]
     return [("do", f'"{name}"')] + [(key, VALUES[key](rng)) for key in keys]
 
 

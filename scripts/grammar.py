@@ -289,18 +289,30 @@ def frame_of(records):
 
 SHORT = {8: "\\b", 9: "\\t", 10: "\\n", 12: "\\f", 13: "\\r", 34: '\\"', 92: "\\\\"}
 TABLE = {code: SHORT.get(code, f"\\u{code:04x}") for code in [*range(32), 34, 92]}
-BAD_LINE, TOO_LONG, TOO_BIG = (f'{{"no":"{word}"}}' for word in ("bad_line", "too_long", "too_big"))
+BAD_LINE, TOO_LONG, TOO_BIG, BAD_TIMEOUT, NOT_FOUND = (
+    f'{{"no":"{word}"}}' for word in ("bad_line", "too_long", "too_big", "bad_timeout", "not_found"))
+ANSWERED = ("new", "add", "publish", "read", "status")
+DAY = 86_400_000
 
 
 def quoted(text):
     return '"' + text.translate(TABLE) + '"'
 
 
+def unknown_part(name):
+    return f'{{"name":{quoted(name)},"no":"unknown_part"}}'
+
+
+def unknown_coordinator(number):
+    return f'{{"no":"unknown_coordinator","number":{number}}}'
+
+
 class Topic:
-    """The one topic of a run: its entries, and the bytes of its ledger."""
+    """The one topic of a run: its entries, and the bytes of its ledger; and the transactions that the run began, with
+    whether the topic was added to them. No transaction was begun before it."""
 
     def __init__(self, entries, ledger):
-        self.entries, self.ledger = entries, ledger
+        self.entries, self.ledger, self.begun = entries, ledger, []
         self.ends = {txn: kind for kind, txn, _ in entries if kind in (COMMIT, ABORT)}
         undecided = (k for k, (kind, txn, _) in enumerate(entries) if kind == OPENED and txn not in self.ends)
         self.undecided = next(undecided, None)
@@ -308,13 +320,49 @@ class Topic:
     def limit(self):
         return len(self.entries) if self.undecided is None else self.undecided
 
-    def publish(self, texts):
+    def new(self, timeout):
+        if not 1 <= timeout <= DAY:
+            return BAD_TIMEOUT
+        self.begun.append(False)
+        return f'{{"ok":"new","txn":[0,{len(self.begun) - 1}]}}'
+
+    def status(self, most, least):
+        if most != 0:
+            return unknown_coordinator(most)
+        return '{"ok":"status","status":"open"}' if least < len(self.begun) else NOT_FOUND
+
+    def add(self, name, most, least):
+        if name != TOPIC:
+            return unknown_part(name)
+        if most != 0:
+            return unknown_coordinator(most)
+        if least >= len(self.begun):
+            return NOT_FOUND
+        self.begun[least] = True
+        return '{"ok":"add"}'
+
+    def publish(self, name, txn, texts):
+        """In a transaction, given by its two numbers, or in none."""
+        if name != TOPIC:
+            return unknown_part(name)
+        if txn and txn[0] != 0:
+            return unknown_coordinator(txn[0])
         bodies = [text.encode() for text in texts]
         if len(bodies) > BATCH or max(map(len, bodies)) > MESSAGE:
             return TOO_BIG
+        kind, key = (OPENED, b"".join(number.to_bytes(8, "big") for number in txn)) if txn else (PLAIN, None)
+        if txn:
+            if txn[1] >= len(self.begun):
+                return NOT_FOUND
+            if key in self.ends:
+                return '{"no":"not_open","status":"open"}'
+            if not self.begun[txn[1]]:
+                return f'{{"no":"not_registered","part":{quoted(TOPIC)}}}'
         place = len(self.entries)
-        self.entries += [(PLAIN, None, body) for body in bodies]
-        self.ledger += frame_of([b"\1\1" + body for body in bodies])
+        if txn and self.undecided is None:
+            self.undecided = place
+        self.entries += [(kind, key, body) for body in bodies]
+        self.ledger += frame_of([bytes([1, kind]) + (key or b"") + body for body in bodies])
         return f'{{"at":{place},"count":{len(bodies)},"ok":"publish"}}'
 
     def read(self, first, most):
@@ -335,14 +383,20 @@ class Topic:
         if not line.strip(b" \t\r"):
             return None
         request = request_of(line)
-        if request is None or request["do"] not in ("publish", "read") or "txn" in request:
+        if request is None or request["do"] not in ANSWERED:
             return BAD_LINE
+        if request["do"] == "new":
+            return self.new(request["timeout"])
+        if request["do"] == "status":
+            return self.status(*request["txn"])
+        if request["do"] == "add":
+            return self.add(request["part"], *request["txn"])
+        if request["do"] == "publish":
+            data = request["data"]
+            return self.publish(request["topic"], request.get("txn"), [data] if is_text(data) else data)
         if request["topic"] != TOPIC:
-            return f'{{"name":{quoted(request["topic"])},"no":"unknown_part"}}'
-        if request["do"] == "read":
-            return self.read(request["from"], request["max"])
-        data = request["data"]
-        return self.publish([data] if is_text(data) else data)
+            return unknown_part(request["topic"])
+        return self.read(request["from"], request["max"])
 
 
 def lines_of(given):

@@ -1,10 +1,10 @@
 -- What opening tells of the files.
-use Rattle.std.specs.Prelude.{◌≡◌, ◌⊎◌, ℕ, suc, ◌==◌, ◌<◌, ◌≤◌, if◌then◌else◌, List, [], length, take, All, slice_index_or}
+use Rattle.std.specs.Prelude.{◌≡◌, ◌⊎◌, ℕ, zero, suc, ◌<◌, ◌≤◌, false, List, [], length, take, All, slice_index_or}
 use Rattle.txn_base.specs.declared.entry.CoordEntry.{CoordEntry}
 use Rattle.txn_base.specs.declared.file_id.FileId.{FileId}
 use Rattle.txn_base.specs.Decoded.{coord_entry_of, coord_entries, topic_entries}
 use Rattle.txn_base.specs.Disk.{Files}
-use Rattle.txn_base.specs.Frames.{Record, Batch, records, Stands, IsDamagedAt}
+use Rattle.txn_base.specs.Frames.{Batch, records, Stands, IsDamagedAt}
 use Rattle.txn_base.specs.Records.{IsCoordRecord}
 use Rattle.txn_buffer.specs.Mending.{IsFirstBad}
 use Rattle.txn_buffer.specs.Record.{IsInGrammar}
@@ -38,11 +38,11 @@ IsDamagedTopic bytes entry = IsDamagedAt bytes entry ⊎ ((batches : List Batch)
 
 -- Of n named parts, which are topics, the bytes of the part p are as they have to be; or they are damaged at this entry.
 abbrev pub IsPart : ℕ → ℕ → List ℕ → Type 0
-IsPart n 0 bytes = IsLog n bytes
+IsPart n zero bytes = IsLog n bytes
 IsPart n (suc p) bytes = IsTopicLedger bytes
 
 abbrev pub IsDamagedPart : ℕ → ℕ → List ℕ → ℕ → Type 0
-IsDamagedPart n 0 bytes entry = IsDamagedLog n bytes entry
+IsDamagedPart n zero bytes entry = IsDamagedLog n bytes entry
 IsDamagedPart n (suc p) bytes entry = IsDamagedTopic bytes entry
 
 -- The ledger of the coordinator and that of each of n topics are as they have to be.

@@ -1,14 +1,17 @@
 //! The answer to one request.
 ghost use Rattle.std.specs.Prelude.{◌≡◌, ◌⊎◌, true, length};
-ghost use Rattle.txn_base.specs.Disk.{Since};
+ghost use Rattle.txn_base.specs.Disk.{Files, Since};
 ghost use Rattle.txn_base.specs.declared.reply.Reply.TheVariants as reply;
 ghost use Rattle.txn_base.specs.declared.reply.Refusal.TheVariants as no;
 ghost use Rattle.txn_engine.specs.Above.{KeepsAboveIf};
+ghost use Rattle.txn_engine.specs.Kept.{IsEngine};
 ghost use Rattle.txn_engine.specs.Table.{table_of};
 ghost use Rattle.txn_engine.specs.Told.{IsAsked, RoseFor, CountsWithin, IsTellable};
 ghost use Rattle.txn_engine.specs.View.{IsWhole, IsTied, IsBacked};
+ghost use Rattle.txn_model.specs.declared.world.World.{World};
 ghost use Rattle.txn_model.specs.Answers.{AnswersAt};
 ghost use Rattle.txn_model.specs.Replies.{is_fault};
+ghost use Rattle.txn_model.specs.Sound.{StandsFor, StandsForKept};
 ghost use Rattle.txn_wire.specs.Short.{is_long};
 
 use crate::engine::Engine;
@@ -34,11 +37,45 @@ impl Engine {
         ensures instead { D.tells → IsTied self.old → is_long result ≡ true → AnswersAt self.old.limits (RoseFor (D.faults disk.old) (D.faults disk.new) (D.part_faults disk.old) (D.part_faults disk.new)) (table_of self.old) request.now now (reply.No no.NoMemory) (table_of self.new) }
         ensures tellable { IsTellable result }
         ensures names { self.new.names ≡ self.old.names }
+        ensures limits { self.new.limits ≡ self.old.limits }
+        ensures kept { IsEngine self.new }
         ensures whole { IsWhole self.new ⊎ (is_fault result ≡ true) }
         ensures tied { IsTied self.old → IsTied self.new }
         ensures backed { IsBacked (D.image disk.new) self.new }
 
         // Whatever world each image at the call extends soundly, each image at any moment since does.
+        ensures images { Since D.moment D.image D.left_since (KeepsAboveIf (IsTied self.old) self.old.names) disk.old disk.new }
+
+        // Whatever a stop leaves afterwards is what the table keeps of one: each batch in flight whole or not at all.
+        ensures leaves { (c : Files) (w : World) → D.image disk.new c → StandsFor self.new.names c w → StandsForKept self.new.names c (table_of self.new).world (table_of self.new).flights }
+        ensures cause { CountsWithin (length self.old.names) (D.faults disk.old) (D.faults disk.new) (D.part_faults disk.old) (D.part_faults disk.new) (is_fault result ≡ true) }
+    {
+        let reply = self.reply_to(disk, now, request, steps);
+        self.kept();
+        reply
+    }
+
+    /// The same, without what always holds of an engine.
+    fn reply_to<D: Disk, L: ledger::Ledger>(
+        &mut self,
+        disk: &mut D,
+        now: u64,
+        request: &Request,
+        steps: &mut Steps<L>,
+    ) -> Reply
+        requires whole { IsWhole self.old }
+        requires asked { IsAsked request.now }
+        requires backed { IsBacked (D.image disk.old) self.old }
+
+        ensures answers { D.tells → IsTied self.old → AnswersAt self.old.limits (RoseFor (D.faults disk.old) (D.faults disk.new) (D.part_faults disk.old) (D.part_faults disk.new)) (table_of self.old) request.now now result (table_of self.new) }
+        ensures instead { D.tells → IsTied self.old → is_long result ≡ true → AnswersAt self.old.limits (RoseFor (D.faults disk.old) (D.faults disk.new) (D.part_faults disk.old) (D.part_faults disk.new)) (table_of self.old) request.now now (reply.No no.NoMemory) (table_of self.new) }
+        ensures tellable { IsTellable result }
+        ensures names { self.new.names ≡ self.old.names }
+        ensures limits { self.new.limits ≡ self.old.limits }
+        ensures whole { IsWhole self.new ⊎ (is_fault result ≡ true) }
+        ensures tied { IsTied self.old → IsTied self.new }
+        ensures backed { IsBacked (D.image disk.new) self.new }
+
         ensures images { Since D.moment D.image D.left_since (KeepsAboveIf (IsTied self.old) self.old.names) disk.old disk.new }
         ensures cause { CountsWithin (length self.old.names) (D.faults disk.old) (D.faults disk.new) (D.part_faults disk.old) (D.part_faults disk.new) (is_fault result ≡ true) }
     {

@@ -23,6 +23,7 @@ impl Engine {
         requires backed { IsBacked (D.image disk.old) self.old }
         ensures told { D.tells → IsTied self.old → MayTell (D.faults disk.old) (D.faults disk.new) (D.part_faults disk.old) (D.part_faults disk.new) self.old (request.New timeout) now result self.new }
         ensures tellable { IsTellable result }
+        ensures limits { self.new.limits ≡ self.old.limits }
         ensures goes { Goes D.moment D.image D.left_since D.faults D.part_faults (is_fault result ≡ true) self.old self.new disk.old disk.new }
     {
         self.latest = self.latest.max(now.min(LAST));
@@ -44,6 +45,7 @@ impl Engine {
         requires backed { IsBacked (D.image disk.old) self.old }
         ensures told { D.tells → IsTied self.old → (now : ℕ) → MayTell (D.faults disk.old) (D.faults disk.new) (D.part_faults disk.old) (D.part_faults disk.new) self.old (request.Add txn part.now) now result self.new }
         ensures tellable { IsTellable result }
+        ensures limits { self.new.limits ≡ self.old.limits }
         ensures goes { Goes D.moment D.image D.left_since D.faults D.part_faults (is_fault result ≡ true) self.old self.new disk.old disk.new }
     {
         let Some(number) = part_of(&self.names, part) else {

@@ -66,6 +66,13 @@ impl Engine {
     {
         matches!(self.coordinator.state(), PartState::Whole) && are_whole(&self.topics)
     }
+
+    /// Does nothing. Its clause says what always holds of an engine.
+    pub(crate) fn kept(&self)
+        ensures { IsEngine self.now }
+    {
+        let _latest = self.latest;
+    }
 }
 
 fn are_whole(topics: &[Topic<Ledger>]) -> bool

@@ -57,7 +57,7 @@ impl Engine {
         ensures images { Since D.moment D.image D.left_since (KeepsWorld names.items) disk.old disk.new }
         ensures cause { CountsWithin (length names.items) (D.faults disk.old) (D.faults disk.new) (D.part_faults disk.old) (D.part_faults disk.new) (result ≡ Err EngineError.Fault) }
     {
-        let _ = (names, limits, disk, steps, alloc);
+        let _ = (alloc, names, limits);
         Err(EngineError::NoMemory)
     }
 }

@@ -11,7 +11,7 @@ use Rattle.txn_model.specs.Cut.{is_blank}
 use Rattle.txn_model.specs.Replies.{Standing, too_long, blank, form, Replied, AnswersFrom}
 use Rattle.txn_wire.specs.Lines.{request_of, AsksForSome}
 use Rattle.txn_wire.specs.Short.{is_long}
-use Rattle.txn_run.specs.Desk.{IsAsked}
+use Rattle.txn_engine.specs.Told.{IsAsked}
 use Rattle.txn_run.specs.Kinds.{is_answered, if_answered, asked_of, line_kind}
 use Rattle.txn_run.specs.Told.{MayTell}
 
@@ -23,16 +23,15 @@ lt_false m n h = grind (arith, nat_tests)
 
 -- a form that is answered, of a line that asks for something
 pub asked_here : (r : Request) → is_answered r ≡ true → AsksForSome r → IsAsked r
-asked_here (request.Publish topic None bodies) is some = some
-asked_here (request.Publish topic (Some x) bodies) is some = absurd (true≢false (sym is))
-asked_here (request.Read topic first max) is some = some
-asked_here (request.New timeout) is some = absurd (true≢false (sym is))
-asked_here (request.Add x part) is some = absurd (true≢false (sym is))
-asked_here (request.Ack sub x places) is some = absurd (true≢false (sym is))
-asked_here (request.AckUpTo sub x place) is some = absurd (true≢false (sym is))
+asked_here (request.New timeout) is some = tt
+asked_here (request.Add x part) is some = tt
+asked_here (request.Publish topic who bodies) is some = some
 asked_here (request.Commit x) is some = absurd (true≢false (sym is))
 asked_here (request.Abort x) is some = absurd (true≢false (sym is))
-asked_here (request.Status x) is some = absurd (true≢false (sym is))
+asked_here (request.Status x) is some = tt
+asked_here (request.Read topic first max) is some = some
+asked_here (request.Ack sub x places) is some = absurd (true≢false (sym is))
+asked_here (request.AckUpTo sub x place) is some = absurd (true≢false (sym is))
 asked_here (request.Receive sub max) is some = absurd (true≢false (sym is))
 asked_here (request.Redeliver sub) is some = absurd (true≢false (sym is))
 asked_here request.Tick is some = absurd (true≢false (sym is))

@@ -1,5 +1,5 @@
 -- What stands after a line was told.
-use Rattle.std.proofs.Common.{◌⊎◌, IsTrue, true≢false, ◌≡◌, ℕ, ◌+◌, List, [], ◌∷◌, ◌++◌, length, take, Bool, true, false, Option, Result, Ok, Err, OnOk, OnErr, inl, inr, refl, sym, ap, ◌∙◌, subst, append_assoc, append-nil}
+use Rattle.std.proofs.Common.{◌⊎◌, ◌↔◌, IsTrue, true≢false, ◌≡◌, ℕ, ◌+◌, List, [], ◌∷◌, ◌++◌, length, take, Bool, true, false, Option, Result, Ok, Err, OnOk, OnErr, inl, inr, refl, sym, ap, ◌∙◌, subst, append_assoc, append-nil}
 use Rattle.std.specs.Io.KnownBytes.{Appends}
 use Rattle.std.proofs.KnownBytes.{Appends-nil, Appends-trans}
 use Rattle.std.proofs.lemmas.Grind.{flat_map-append}
@@ -125,9 +125,10 @@ told_fault limits s kind r told s' old new h (inl e) fault put =
     (told, subst (λ x. Replied limits s kind (x ∷ []) s') (sym e) h.told, ap is_fault e ∙ fault, subst (Appends old new) (text_of_one told) put)
 told_fault limits s kind r told s' old new h (inr e) fault put = absurd (long_no_fault r e.1 fault)
 
-pub not_whole : (whole fault : Bool) → whole ≡ false → IsTrue whole ⊎ (fault ≡ true) → fault ≡ true
-not_whole whole fault e (inl h) = absurd (true≢false (sym h ∙ e))
-not_whole whole fault e (inr h) = h
+-- an engine that isn't whole told a fault
+pub not_whole : (P : Type 0) (whole fault : Bool) → whole ≡ false → IsTrue whole ↔ P → P ⊎ (fault ≡ true) → fault ≡ true
+not_whole P whole fault e test (inl h) = absurd (true≢false (sym (test.1 h) ∙ e))
+not_whole P whole fault e test (inr h) = h
 
 -- ---- what was put, on every disk
 

@@ -4,8 +4,14 @@ use Rattle.std.specs.Io.KnownBytes.{Consumes}
 use Rattle.txn_base.specs.declared.limits.Limits.{Limits}
 use Rattle.txn_model.specs.Cut.{whole_lines, last_piece}
 use Rattle.txn_model.specs.Replies.{Standing}
+use Rattle.txn_engine.specs.Table.{table_of}
+use Rattle.txn_engine.specs.View.{EngineView}
 use Rattle.txn_run.specs.Told.{Told, Broken, Stopped}
 use Rattle.txn_run.specs.declared.pending.Pending.{Pending}
+
+-- The table over an engine, with what the clock has to tell and the counts of the disk.
+abbrev pub standing : EngineView → Option (List ℕ) → ℕ → (ℕ → ℕ) → Standing
+standing v moments faults faults_of = record { table = table_of v; moments = moments; faults = faults; faults_of = faults_of }
 
 -- The piece of a line that has come: what is kept of it is all of it, unless it is too long.
 pub record Stands (limit : ℕ) (p : Pending) (piece : List ℕ) : Type 0 where

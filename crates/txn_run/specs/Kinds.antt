@@ -6,9 +6,14 @@ use Rattle.txn_base.specs.declared.request.Request.TheVariants as request
 use Rattle.txn_model.specs.Replies.{Kind, kind_of}
 use Rattle.txn_wire.specs.Lines.{request_of}
 
--- The forms that are answered so far: a plain publish, and a read. Every other one is a bad line.
+-- The forms that are answered so far. Every other one is a bad line.
 abbrev pub is_answered : Request → Bool
-is_answered (request.Publish topic None bodies) = true
+is_answered (request.New timeout) = true
+is_answered (request.Add x part) = true
+is_answered (request.Publish topic who bodies) = true
+is_answered (request.Commit x) = false
+is_answered (request.Abort x) = false
+is_answered (request.Status x) = true
 is_answered (request.Read topic first max) = true
 is_answered _ = false
 

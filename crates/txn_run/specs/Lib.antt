@@ -1,8 +1,6 @@
-pub mod Above
-pub mod Desk
+pub mod Before
 pub mod Going
 pub mod Kinds
-pub mod OneTopic
 pub mod Run
 pub mod Status
 pub mod Told

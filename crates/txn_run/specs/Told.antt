@@ -1,5 +1,5 @@
 -- What was put into the sink for lines that were answered.
-use Rattle.std.specs.Prelude.{◌≡◌, ◌⊎◌, ℕ, List, [], ◌∷◌, ◌++◌, take, flat_map, true, false, Option}
+use Rattle.std.specs.Prelude.{◌≡◌, ◌⊎◌, ℕ, List, [], ◌∷◌, ◌++◌, take, flat_map, Bool, true, false, Option, Some, None}
 use Rattle.std.specs.Io.KnownBytes.{Appends}
 use Rattle.txn_base.specs.declared.limits.Limits.{Limits}
 use Rattle.txn_base.specs.declared.reply.Reply.{Reply}
@@ -7,12 +7,17 @@ use Rattle.txn_base.specs.declared.reply.Reply.TheVariants as reply
 use Rattle.txn_base.specs.declared.reply.Refusal.TheVariants as no
 use Rattle.txn_model.specs.Replies.{Standing, Kind, Replied, Replies, is_fault}
 use Rattle.txn_wire.specs.Replies.{text_of}
-use Rattle.txn_wire.specs.Short.{IsShort, is_long}
+use Rattle.txn_wire.specs.Short.{is_long}
 use Rattle.txn_run.specs.Kinds.{line_kinds}
 
 -- The texts of replies, one behind the other.
 abbrev pub texts : List Reply → List ℕ
 texts told = flat_map text_of told
+
+-- There is a reply, and it tells of a fault.
+abbrev pub tells_fault : Option Reply → Bool
+tells_fault None = false
+tells_fault (Some r) = is_fault r
 
 -- Something was put, or nothing.
 abbrev pub Grows : Option (List ℕ) → Option (List ℕ) → Type 0
@@ -68,10 +73,6 @@ Stopped limits s old all s' new = (lines more : List (List ℕ)) × (all ≡ lin
 -- Told in the place of a reply: it, or want of memory for its text.
 abbrev pub StandsFor : Reply → Reply → Type 0
 StandsFor r told = (told ≡ r) ⊎ ((told ≡ reply.No no.NoMemory) × (is_long r ≡ true))
-
--- A reply has a long text, or one within the room.
-abbrev pub IsTellable : Reply → Type 0
-IsTellable r = is_long r ≡ false → IsShort r
 
 -- A line of this kind may be told this reply, and where its text is long, want of memory instead.
 pub record MayTell (limits : Limits) (s : Standing) (kind : Kind) (r : Reply) (s' : Standing) : Type 0 where

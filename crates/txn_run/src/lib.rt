@@ -1,16 +1,14 @@
 //! Lines in, replies out, over the files of a disk.
 #![tactic(auto)]
 
-mod desk;
 mod lines;
-mod opening;
 mod pending;
 mod program;
 mod put;
+mod room;
 mod status;
 mod words;
 
-pub use desk::OneTopic;
 pub use lines::Stop;
 pub use pending::Pending;
 pub use program::run;

@@ -1,29 +1,27 @@
 //! The lines of the source, and what is told to each.
-ghost use Rattle.std.specs.Prelude.{◌≡◌, ◌≤◌, ◌<◌, ◌∷◌, [], ◌⊎◌, ℕ, List, Option, None, length, take, IfOk, IfSome, OnOk, Ok, Err, MatchResult, IsTrue, true};
+ghost use Rattle.std.specs.Prelude.{◌≡◌, ◌≤◌, ◌<◌, ◌∷◌, [], ◌⊎◌, ℕ, List, Option, None, length, take, IfOk, IfSome, OnOk, Ok, Err, MatchResult, true};
 ghost use Rattle.std.specs.Io.KnownBytes.{Consumes, Keeps, IsAtEnd};
-ghost use Rattle.txn_base.specs.Content.{Backed};
-ghost use Rattle.txn_base.specs.Disk.{Since, CountsFaults};
-ghost use Rattle.txn_base.specs.Limits.{InRange};
-ghost use Rattle.txn_base.specs.Names.{is_topic_name};
+ghost use Rattle.txn_base.specs.Disk.{Since};
 ghost use Rattle.txn_base.specs.Outside.{HasCause, Rose};
 ghost use Rattle.txn_base.specs.Room.{capacity};
-ghost use Rattle.txn_buffer.specs.View.{IsFrontOf};
-ghost use Rattle.txn_ledger.specs.Ledger.{StandsIn};
+ghost use Rattle.txn_engine.specs.Above.{KeepsAboveIf};
+ghost use Rattle.txn_engine.specs.Kept.{IsEngine};
+ghost use Rattle.txn_engine.specs.Told.{CountsWithin, IsTellable};
+ghost use Rattle.txn_engine.specs.View.{IsWhole, IsTied, IsBacked};
+ghost use Rattle.txn_model.specs.Answers.{reads_clock};
 ghost use Rattle.txn_model.specs.Cut.{is_blank, lines_of};
-ghost use Rattle.txn_model.specs.Replies.{Standing, Replied};
-ghost use Rattle.txn_run.specs.Above.{KeepsAbove};
-ghost use Rattle.txn_run.specs.Desk.{standing, IsPartOne, tells_fault};
-ghost use Rattle.txn_run.specs.Going.{Stands, Going, GoesOn, BreaksOff, StopsIn};
+ghost use Rattle.txn_model.specs.Replies.{Standing, Replied, TellsFor};
+ghost use Rattle.txn_run.specs.Going.{standing, Stands, Going, GoesOn, BreaksOff, StopsIn};
 ghost use Rattle.txn_run.specs.Kinds.{is_answered, line_kind};
-ghost use Rattle.txn_run.specs.Told.{IsTellable, Grows, EndsWithFault, ToldLine, ToldFront, ToldFault, Told, Broken, Stopped, MayTell};
+ghost use Rattle.txn_run.specs.Told.{tells_fault, Grows, EndsWithFault, ToldLine, ToldFront, ToldFault, Told, Broken, Stopped, MayTell};
 ghost use Rattle.txn_run.specs.declared.lines.Stop.TheVariants as stop;
 
-use crate::desk::OneTopic;
 use crate::pending::Pending;
 use crate::put::put_reply;
 use std::alloc::Global;
 use std::sync::ledger;
-use txn_base::{Bytes, Disk, Failed, Limits, Refusal, Reply, Request, Sink, Source, Steps};
+use txn_base::{Bytes, Clock, Disk, Failed, Limits, Refusal, Reply, Request, Sink, Source, Steps};
+use txn_engine::Engine;
 use txn_wire::{WireError, read_request};
 
 /// Why no further line is answered.
@@ -31,7 +29,7 @@ use txn_wire::{WireError, read_request};
 pub enum Stop {
     /// The sink took no more.
     Sink,
-    /// A fault was told, after which the topic isn't rebuilt.
+    /// A fault was told, after which a part isn't rebuilt.
     Disk,
 }
 
@@ -40,10 +38,30 @@ fn is_answered(request: &Request) -> bool
     ensures { result ≡ is_answered request.now }
 {
     match request {
-        Request::Publish { txn, .. } => txn.is_none(),
-        Request::Read { .. } => true,
+        Request::New { .. }
+        | Request::Add { .. }
+        | Request::Publish { .. }
+        | Request::Status { .. }
+        | Request::Read { .. } => true,
         _ => false,
     }
+}
+
+/// Whether a request comes after a moment of the clock.
+fn reads_clock(request: &Request) -> bool
+    ensures { result ≡ reads_clock request.now }
+{
+    matches!(request, Request::New { .. } | Request::Tick)
+}
+
+/// The moment of a request: the next one of the clock, where it reads the clock.
+fn moment_for<K: Clock>(request: &Request, clock: &mut K) -> u64
+    ensures { TellsFor request.now (K.moments clock.old) result (K.moments clock.new) }
+{
+    if reads_clock(request) {
+        return clock.now();
+    }
+    0
 }
 
 fn is_blank(line: &[u8]) -> bool
@@ -58,29 +76,30 @@ fn is_blank(line: &[u8]) -> bool
 }
 
 /// The reply to a line that has ended, where it has one.
-fn reply<D: Disk, L: ledger::Ledger>(
+fn reply<D: Disk, K: Clock, L: ledger::Ledger>(
     alloc: Global,
     limits: &Limits,
     pending: &Pending,
-    desk: &mut OneTopic,
+    engine: &mut Engine,
     disk: &mut D,
     steps: &mut Steps<L>,
+    clock: &mut K,
 ) -> Option<Reply>
-    requires whole { IsTrue desk.old.topic.whole }
-    requires part { IsPartOne limits.now desk.old.topic }
-    requires name { is_topic_name desk.old.name ≡ true }
-    requires in_range { InRange limits.now }
-    requires backed { Backed StandsIn (D.image disk.old) desk.old.topic.content }
-    ensures some { IfSome result (λ told. D.tells → IsFrontOf desk.old.topic → (ms : Option (List ℕ)) (piece : List ℕ) → Stands limits.now.line pending.now piece → MayTell limits.now (standing desk.old.name desk.old.topic ms (D.faults disk.old) (D.part_faults disk.old)) (line_kind limits.now piece) told (standing desk.new.name desk.new.topic ms (D.faults disk.new) (D.part_faults disk.new))) }
-    ensures none { result ≡ None → (ms : Option (List ℕ)) (piece : List ℕ) → Stands limits.now.line pending.now piece → Replied limits.now (standing desk.old.name desk.old.topic ms (D.faults disk.old) (D.part_faults disk.old)) (line_kind limits.now piece) [] (standing desk.new.name desk.new.topic ms (D.faults disk.new) (D.part_faults disk.new)) }
-    ensures whole { (IsTrue desk.new.topic.whole) ⊎ (tells_fault result ≡ true) }
+    requires whole { IsWhole engine.old }
+    requires limits { engine.old.limits ≡ limits.now }
+    requires engine { IsEngine engine.old }
+    requires backed { IsBacked (D.image disk.old) engine.old }
+    ensures some { IfSome result (λ told. D.tells → IsTied engine.old → (piece : List ℕ) → Stands limits.now.line pending.now piece → MayTell limits.now (standing engine.old (K.moments clock.old) (D.faults disk.old) (D.part_faults disk.old)) (line_kind limits.now piece) told (standing engine.new (K.moments clock.new) (D.faults disk.new) (D.part_faults disk.new))) }
+    ensures none { result ≡ None → (piece : List ℕ) → Stands limits.now.line pending.now piece → Replied limits.now (standing engine.old (K.moments clock.old) (D.faults disk.old) (D.part_faults disk.old)) (line_kind limits.now piece) [] (standing engine.new (K.moments clock.new) (D.faults disk.new) (D.part_faults disk.new)) }
+    ensures whole { IsWhole engine.new ⊎ (tells_fault result ≡ true) }
     ensures tellable { IfSome result IsTellable }
-    ensures name { desk.new.name ≡ desk.old.name }
-    ensures part { IsPartOne limits.now desk.new.topic }
-    ensures tied { IsFrontOf desk.old.topic → IsFrontOf desk.new.topic }
-    ensures backed { Backed StandsIn (D.image disk.new) desk.new.topic.content }
-    ensures images { Since D.moment D.image D.left_since (KeepsAbove (desk.old.name ∷ [])) disk.old disk.new }
-    ensures cause { CountsFaults 1 (D.faults disk.old) (D.faults disk.new) (D.part_faults disk.old) (D.part_faults disk.new) (tells_fault result ≡ true) }
+    ensures names { engine.new.names ≡ engine.old.names }
+    ensures limits { engine.new.limits ≡ engine.old.limits }
+    ensures engine { IsEngine engine.new }
+    ensures tied { IsTied engine.old → IsTied engine.new }
+    ensures backed { IsBacked (D.image disk.new) engine.new }
+    ensures images { Since D.moment D.image D.left_since (KeepsAboveIf (IsTied engine.old) engine.old.names) disk.old disk.new }
+    ensures cause { CountsWithin (length engine.old.names) (D.faults disk.old) (D.faults disk.new) (D.part_faults disk.old) (D.part_faults disk.new) (tells_fault result ≡ true) }
 {
     if pending.long {
         return Some(Reply::No(Refusal::TooLong));
@@ -92,7 +111,8 @@ fn reply<D: Disk, L: ledger::Ledger>(
     match read_request(alloc, line) {
         Ok(request) => {
             if is_answered(&request) {
-                Some(desk.answer(alloc, disk, limits, &request, steps))
+                let now = moment_for(&request, clock);
+                Some(engine.answer(disk, now, &request, steps))
             } else {
                 Some(Reply::No(Refusal::BadLine))
             }
@@ -103,43 +123,44 @@ fn reply<D: Disk, L: ledger::Ledger>(
 }
 
 /// Tells the reply to a line that has ended.
-fn answer_line<D: Disk, O: Sink, L: ledger::Ledger>(
+fn answer_line<D: Disk, O: Sink, K: Clock, L: ledger::Ledger>(
     alloc: Global,
     limits: &Limits,
     pending: &Pending,
-    desk: &mut OneTopic,
+    engine: &mut Engine,
     disk: &mut D,
     steps: &mut Steps<L>,
     out: &mut Bytes,
     sink: &mut O,
+    clock: &mut K,
 ) -> Result<(), Stop>
-    requires whole { IsTrue desk.old.topic.whole }
-    requires part { IsPartOne limits.now desk.old.topic }
-    requires name { is_topic_name desk.old.name ≡ true }
-    requires in_range { InRange limits.now }
-    requires backed { Backed StandsIn (D.image disk.old) desk.old.topic.content }
+    requires whole { IsWhole engine.old }
+    requires limits { engine.old.limits ≡ limits.now }
+    requires engine { IsEngine engine.old }
+    requires backed { IsBacked (D.image disk.old) engine.old }
     requires room { 512 ≤ capacity out.old }
     ensures kept { capacity out.old ≤ capacity out.new }
-    ensures ok { result ≡ Ok tt → D.tells → IsFrontOf desk.old.topic → (ms : Option (List ℕ)) (piece : List ℕ) → Stands limits.now.line pending.now piece → ToldLine limits.now (standing desk.old.name desk.old.topic ms (D.faults disk.old) (D.part_faults disk.old)) (line_kind limits.now piece) (standing desk.new.name desk.new.topic ms (D.faults disk.new) (D.part_faults disk.new)) (O.held sink.old) (O.held sink.new) }
-    ensures sink { result ≡ Err stop.Sink → D.tells → IsFrontOf desk.old.topic → (ms : Option (List ℕ)) (piece : List ℕ) → Stands limits.now.line pending.now piece → ToldFront limits.now (standing desk.old.name desk.old.topic ms (D.faults disk.old) (D.part_faults disk.old)) (line_kind limits.now piece) (standing desk.new.name desk.new.topic ms (D.faults disk.new) (D.part_faults disk.new)) (O.held sink.old) (O.held sink.new) }
-    ensures disk { result ≡ Err stop.Disk → D.tells → IsFrontOf desk.old.topic → (ms : Option (List ℕ)) (piece : List ℕ) → Stands limits.now.line pending.now piece → ToldFault limits.now (standing desk.old.name desk.old.topic ms (D.faults disk.old) (D.part_faults disk.old)) (line_kind limits.now piece) (standing desk.new.name desk.new.topic ms (D.faults disk.new) (D.part_faults disk.new)) (O.held sink.old) (O.held sink.new) }
+    ensures ok { result ≡ Ok tt → D.tells → IsTied engine.old → (piece : List ℕ) → Stands limits.now.line pending.now piece → ToldLine limits.now (standing engine.old (K.moments clock.old) (D.faults disk.old) (D.part_faults disk.old)) (line_kind limits.now piece) (standing engine.new (K.moments clock.new) (D.faults disk.new) (D.part_faults disk.new)) (O.held sink.old) (O.held sink.new) }
+    ensures sink { result ≡ Err stop.Sink → D.tells → IsTied engine.old → (piece : List ℕ) → Stands limits.now.line pending.now piece → ToldFront limits.now (standing engine.old (K.moments clock.old) (D.faults disk.old) (D.part_faults disk.old)) (line_kind limits.now piece) (standing engine.new (K.moments clock.new) (D.faults disk.new) (D.part_faults disk.new)) (O.held sink.old) (O.held sink.new) }
+    ensures disk { result ≡ Err stop.Disk → D.tells → IsTied engine.old → (piece : List ℕ) → Stands limits.now.line pending.now piece → ToldFault limits.now (standing engine.old (K.moments clock.old) (D.faults disk.old) (D.part_faults disk.old)) (line_kind limits.now piece) (standing engine.new (K.moments clock.new) (D.faults disk.new) (D.part_faults disk.new)) (O.held sink.old) (O.held sink.new) }
     ensures grown { Grows (O.held sink.old) (O.held sink.new) }
     ensures stopped { result ≡ Err stop.Disk → EndsWithFault (O.held sink.old) (O.held sink.new) }
-    ensures whole { OnOk result (IsTrue desk.new.topic.whole) }
-    ensures name { desk.new.name ≡ desk.old.name }
-    ensures part { IsPartOne limits.now desk.new.topic }
-    ensures tied { IsFrontOf desk.old.topic → IsFrontOf desk.new.topic }
-    ensures backed { Backed StandsIn (D.image disk.new) desk.new.topic.content }
-    ensures images { Since D.moment D.image D.left_since (KeepsAbove (desk.old.name ∷ [])) disk.old disk.new }
+    ensures whole { OnOk result (IsWhole engine.new) }
+    ensures names { engine.new.names ≡ engine.old.names }
+    ensures limits { engine.new.limits ≡ engine.old.limits }
+    ensures engine { IsEngine engine.new }
+    ensures tied { IsTied engine.old → IsTied engine.new }
+    ensures backed { IsBacked (D.image disk.new) engine.new }
+    ensures images { Since D.moment D.image D.left_since (KeepsAboveIf (IsTied engine.old) engine.old.names) disk.old disk.new }
     ensures beside { O.rest sink.new ≡ O.rest sink.old }
     ensures writes_later { O.faults sink.old ≤ O.faults sink.new }
     ensures writes { result ≡ Err stop.Sink → Rose (O.faults sink.old) (O.faults sink.new) }
-    ensures cause { CountsFaults 1 (D.faults disk.old) (D.faults disk.new) (D.part_faults disk.old) (D.part_faults disk.new) (result ≡ Err stop.Disk) }
+    ensures cause { CountsWithin (length engine.old.names) (D.faults disk.old) (D.faults disk.new) (D.part_faults disk.old) (D.part_faults disk.new) (result ≡ Err stop.Disk) }
 {
-    match reply(alloc, limits, pending, desk, disk, steps) {
+    match reply(alloc, limits, pending, engine, disk, steps, clock) {
         Some(reply) => match put_reply(alloc, &reply, out, sink) {
             Ok(()) => {
-                if desk.is_whole() {
+                if engine.is_whole() {
                     Ok(())
                 } else {
                     Err(Stop::Disk)
@@ -151,44 +172,47 @@ fn answer_line<D: Disk, O: Sink, L: ledger::Ledger>(
     }
 }
 
-fn take_byte<D: Disk, O: Sink, L: ledger::Ledger>(
+fn take_byte<D: Disk, O: Sink, K: Clock, L: ledger::Ledger>(
     alloc: Global,
     limits: &Limits,
     byte: u8,
     pending: &mut Pending,
-    desk: &mut OneTopic,
+    engine: &mut Engine,
     disk: &mut D,
     steps: &mut Steps<L>,
     out: &mut Bytes,
     sink: &mut O,
+    clock: &mut K,
 ) -> Result<(), Stop>
-    requires whole { IsTrue desk.old.topic.whole }
-    requires part { IsPartOne limits.now desk.old.topic }
-    requires name { is_topic_name desk.old.name ≡ true }
-    requires in_range { InRange limits.now }
-    requires backed { Backed StandsIn (D.image disk.old) desk.old.topic.content }
+    requires whole { IsWhole engine.old }
+    requires limits { engine.old.limits ≡ limits.now }
+    requires engine { IsEngine engine.old }
+    requires backed { IsBacked (D.image disk.old) engine.old }
     requires line { limits.now.line ≤ capacity pending.old.line }
     requires room { 512 ≤ capacity out.old }
     ensures line { limits.now.line ≤ capacity pending.new.line }
     ensures kept { capacity out.old ≤ capacity out.new }
-    ensures ok { result ≡ Ok tt → D.tells → IsFrontOf desk.old.topic → (ms : Option (List ℕ)) → GoesOn limits.now (byte ∷ []) pending.old (standing desk.old.name desk.old.topic ms (D.faults disk.old) (D.part_faults disk.old)) (O.held sink.old) pending.new (standing desk.new.name desk.new.topic ms (D.faults disk.new) (D.part_faults disk.new)) (O.held sink.new) }
-    ensures sink { result ≡ Err stop.Sink → D.tells → IsFrontOf desk.old.topic → (ms : Option (List ℕ)) → BreaksOff limits.now (byte ∷ []) pending.old (standing desk.old.name desk.old.topic ms (D.faults disk.old) (D.part_faults disk.old)) (O.held sink.old) (standing desk.new.name desk.new.topic ms (D.faults disk.new) (D.part_faults disk.new)) (O.held sink.new) }
-    ensures disk { result ≡ Err stop.Disk → D.tells → IsFrontOf desk.old.topic → (ms : Option (List ℕ)) → StopsIn limits.now (byte ∷ []) pending.old (standing desk.old.name desk.old.topic ms (D.faults disk.old) (D.part_faults disk.old)) (O.held sink.old) (standing desk.new.name desk.new.topic ms (D.faults disk.new) (D.part_faults disk.new)) (O.held sink.new) }
+    ensures ok { result ≡ Ok tt → D.tells → IsTied engine.old → GoesOn limits.now (byte ∷ []) pending.old (standing engine.old (K.moments clock.old) (D.faults disk.old) (D.part_faults disk.old)) (O.held sink.old) pending.new (standing engine.new (K.moments clock.new) (D.faults disk.new) (D.part_faults disk.new)) (O.held sink.new) }
+    ensures sink { result ≡ Err stop.Sink → D.tells → IsTied engine.old → BreaksOff limits.now (byte ∷ []) pending.old (standing engine.old (K.moments clock.old) (D.faults disk.old) (D.part_faults disk.old)) (O.held sink.old) (standing engine.new (K.moments clock.new) (D.faults disk.new) (D.part_faults disk.new)) (O.held sink.new) }
+    ensures disk { result ≡ Err stop.Disk → D.tells → IsTied engine.old → StopsIn limits.now (byte ∷ []) pending.old (standing engine.old (K.moments clock.old) (D.faults disk.old) (D.part_faults disk.old)) (O.held sink.old) (standing engine.new (K.moments clock.new) (D.faults disk.new) (D.part_faults disk.new)) (O.held sink.new) }
     ensures grown { Grows (O.held sink.old) (O.held sink.new) }
     ensures stopped { result ≡ Err stop.Disk → EndsWithFault (O.held sink.old) (O.held sink.new) }
-    ensures whole { OnOk result (IsTrue desk.new.topic.whole) }
-    ensures name { desk.new.name ≡ desk.old.name }
-    ensures part { IsPartOne limits.now desk.new.topic }
-    ensures tied { IsFrontOf desk.old.topic → IsFrontOf desk.new.topic }
-    ensures backed { Backed StandsIn (D.image disk.new) desk.new.topic.content }
-    ensures images { Since D.moment D.image D.left_since (KeepsAbove (desk.old.name ∷ [])) disk.old disk.new }
+    ensures whole { OnOk result (IsWhole engine.new) }
+    ensures names { engine.new.names ≡ engine.old.names }
+    ensures limits { engine.new.limits ≡ engine.old.limits }
+    ensures engine { IsEngine engine.new }
+    ensures tied { IsTied engine.old → IsTied engine.new }
+    ensures backed { IsBacked (D.image disk.new) engine.new }
+    ensures images { Since D.moment D.image D.left_since (KeepsAboveIf (IsTied engine.old) engine.old.names) disk.old disk.new }
     ensures beside { O.rest sink.new ≡ O.rest sink.old }
     ensures writes_later { O.faults sink.old ≤ O.faults sink.new }
     ensures writes { result ≡ Err stop.Sink → Rose (O.faults sink.old) (O.faults sink.new) }
-    ensures cause { CountsFaults 1 (D.faults disk.old) (D.faults disk.new) (D.part_faults disk.old) (D.part_faults disk.new) (result ≡ Err stop.Disk) }
+    ensures cause { CountsWithin (length engine.old.names) (D.faults disk.old) (D.faults disk.new) (D.part_faults disk.old) (D.part_faults disk.new) (result ≡ Err stop.Disk) }
 {
     if byte == b'\n' {
-        match answer_line(alloc, limits, pending, desk, disk, steps, out, sink) {
+        match answer_line(
+            alloc, limits, pending, engine, disk, steps, out, sink, clock,
+        ) {
             Ok(()) => pending.clear(limits.line),
             Err(stop) => return Err(stop),
         }
@@ -199,44 +223,47 @@ fn take_byte<D: Disk, O: Sink, L: ledger::Ledger>(
 }
 
 /// Goes over bytes that have come.
-pub fn feed<D: Disk, O: Sink, L: ledger::Ledger>(
+pub fn feed<D: Disk, O: Sink, K: Clock, L: ledger::Ledger>(
     alloc: Global,
     limits: &Limits,
     bytes: &[u8],
     pending: &mut Pending,
-    desk: &mut OneTopic,
+    engine: &mut Engine,
     disk: &mut D,
     steps: &mut Steps<L>,
     out: &mut Bytes,
     sink: &mut O,
+    clock: &mut K,
 ) -> Result<(), Stop>
-    requires whole { IsTrue desk.old.topic.whole }
-    requires part { IsPartOne limits.now desk.old.topic }
-    requires name { is_topic_name desk.old.name ≡ true }
-    requires in_range { InRange limits.now }
-    requires backed { Backed StandsIn (D.image disk.old) desk.old.topic.content }
+    requires whole { IsWhole engine.old }
+    requires limits { engine.old.limits ≡ limits.now }
+    requires engine { IsEngine engine.old }
+    requires backed { IsBacked (D.image disk.old) engine.old }
     requires line { limits.now.line ≤ capacity pending.old.line }
     requires room { 512 ≤ capacity out.old }
     ensures line { limits.now.line ≤ capacity pending.new.line }
     ensures kept { capacity out.old ≤ capacity out.new }
-    ensures ok { result ≡ Ok tt → D.tells → IsFrontOf desk.old.topic → (ms : Option (List ℕ)) → GoesOn limits.now bytes.now pending.old (standing desk.old.name desk.old.topic ms (D.faults disk.old) (D.part_faults disk.old)) (O.held sink.old) pending.new (standing desk.new.name desk.new.topic ms (D.faults disk.new) (D.part_faults disk.new)) (O.held sink.new) }
-    ensures sink { result ≡ Err stop.Sink → D.tells → IsFrontOf desk.old.topic → (ms : Option (List ℕ)) → BreaksOff limits.now bytes.now pending.old (standing desk.old.name desk.old.topic ms (D.faults disk.old) (D.part_faults disk.old)) (O.held sink.old) (standing desk.new.name desk.new.topic ms (D.faults disk.new) (D.part_faults disk.new)) (O.held sink.new) }
-    ensures disk { result ≡ Err stop.Disk → D.tells → IsFrontOf desk.old.topic → (ms : Option (List ℕ)) → StopsIn limits.now bytes.now pending.old (standing desk.old.name desk.old.topic ms (D.faults disk.old) (D.part_faults disk.old)) (O.held sink.old) (standing desk.new.name desk.new.topic ms (D.faults disk.new) (D.part_faults disk.new)) (O.held sink.new) }
+    ensures ok { result ≡ Ok tt → D.tells → IsTied engine.old → GoesOn limits.now bytes.now pending.old (standing engine.old (K.moments clock.old) (D.faults disk.old) (D.part_faults disk.old)) (O.held sink.old) pending.new (standing engine.new (K.moments clock.new) (D.faults disk.new) (D.part_faults disk.new)) (O.held sink.new) }
+    ensures sink { result ≡ Err stop.Sink → D.tells → IsTied engine.old → BreaksOff limits.now bytes.now pending.old (standing engine.old (K.moments clock.old) (D.faults disk.old) (D.part_faults disk.old)) (O.held sink.old) (standing engine.new (K.moments clock.new) (D.faults disk.new) (D.part_faults disk.new)) (O.held sink.new) }
+    ensures disk { result ≡ Err stop.Disk → D.tells → IsTied engine.old → StopsIn limits.now bytes.now pending.old (standing engine.old (K.moments clock.old) (D.faults disk.old) (D.part_faults disk.old)) (O.held sink.old) (standing engine.new (K.moments clock.new) (D.faults disk.new) (D.part_faults disk.new)) (O.held sink.new) }
     ensures grown { Grows (O.held sink.old) (O.held sink.new) }
     ensures stopped { result ≡ Err stop.Disk → EndsWithFault (O.held sink.old) (O.held sink.new) }
-    ensures whole { OnOk result (IsTrue desk.new.topic.whole) }
-    ensures name { desk.new.name ≡ desk.old.name }
-    ensures part { IsPartOne limits.now desk.new.topic }
-    ensures tied { IsFrontOf desk.old.topic → IsFrontOf desk.new.topic }
-    ensures backed { Backed StandsIn (D.image disk.new) desk.new.topic.content }
-    ensures images { Since D.moment D.image D.left_since (KeepsAbove (desk.old.name ∷ [])) disk.old disk.new }
+    ensures whole { OnOk result (IsWhole engine.new) }
+    ensures names { engine.new.names ≡ engine.old.names }
+    ensures limits { engine.new.limits ≡ engine.old.limits }
+    ensures engine { IsEngine engine.new }
+    ensures tied { IsTied engine.old → IsTied engine.new }
+    ensures backed { IsBacked (D.image disk.new) engine.new }
+    ensures images { Since D.moment D.image D.left_since (KeepsAboveIf (IsTied engine.old) engine.old.names) disk.old disk.new }
     ensures beside { O.rest sink.new ≡ O.rest sink.old }
     ensures writes_later { O.faults sink.old ≤ O.faults sink.new }
     ensures writes { result ≡ Err stop.Sink → Rose (O.faults sink.old) (O.faults sink.new) }
-    ensures cause { CountsFaults 1 (D.faults disk.old) (D.faults disk.new) (D.part_faults disk.old) (D.part_faults disk.new) (result ≡ Err stop.Disk) }
+    ensures cause { CountsWithin (length engine.old.names) (D.faults disk.old) (D.faults disk.new) (D.part_faults disk.old) (D.part_faults disk.new) (result ≡ Err stop.Disk) }
 {
     for byte in bytes {
-        match take_byte(alloc, limits, *byte, pending, desk, disk, steps, out, sink) {
+        match take_byte(
+            alloc, limits, *byte, pending, engine, disk, steps, out, sink, clock,
+        ) {
             Ok(()) => {}
             Err(stop) => return Err(stop),
         }
@@ -245,40 +272,43 @@ pub fn feed<D: Disk, O: Sink, L: ledger::Ledger>(
 }
 
 /// Tells the last line, where the input didn't end with a newline.
-pub fn finish<D: Disk, O: Sink, L: ledger::Ledger>(
+pub fn finish<D: Disk, O: Sink, K: Clock, L: ledger::Ledger>(
     alloc: Global,
     limits: &Limits,
     pending: &Pending,
-    desk: &mut OneTopic,
+    engine: &mut Engine,
     disk: &mut D,
     steps: &mut Steps<L>,
     out: &mut Bytes,
     sink: &mut O,
+    clock: &mut K,
 ) -> Result<(), Stop>
-    requires whole { IsTrue desk.old.topic.whole }
-    requires part { IsPartOne limits.now desk.old.topic }
-    requires name { is_topic_name desk.old.name ≡ true }
-    requires in_range { InRange limits.now }
-    requires backed { Backed StandsIn (D.image disk.old) desk.old.topic.content }
+    requires whole { IsWhole engine.old }
+    requires limits { engine.old.limits ≡ limits.now }
+    requires engine { IsEngine engine.old }
+    requires backed { IsBacked (D.image disk.old) engine.old }
     requires room { 512 ≤ capacity out.old }
-    ensures ok { result ≡ Ok tt → D.tells → IsFrontOf desk.old.topic → (ms : Option (List ℕ)) (first : Standing) (old : Option (List ℕ)) (fed : List ℕ) → Going limits.now first old fed pending.now (standing desk.old.name desk.old.topic ms (D.faults disk.old) (D.part_faults disk.old)) (O.held sink.old) → Told limits.now first (lines_of fed) (standing desk.new.name desk.new.topic ms (D.faults disk.new) (D.part_faults disk.new)) old (O.held sink.new) }
-    ensures sink { result ≡ Err stop.Sink → D.tells → IsFrontOf desk.old.topic → (ms : Option (List ℕ)) (first : Standing) (old : Option (List ℕ)) (fed : List ℕ) → Going limits.now first old fed pending.now (standing desk.old.name desk.old.topic ms (D.faults disk.old) (D.part_faults disk.old)) (O.held sink.old) → Broken limits.now first old (lines_of fed) (standing desk.new.name desk.new.topic ms (D.faults disk.new) (D.part_faults disk.new)) (O.held sink.new) }
-    ensures disk { result ≡ Err stop.Disk → D.tells → IsFrontOf desk.old.topic → (ms : Option (List ℕ)) (first : Standing) (old : Option (List ℕ)) (fed : List ℕ) → Going limits.now first old fed pending.now (standing desk.old.name desk.old.topic ms (D.faults disk.old) (D.part_faults disk.old)) (O.held sink.old) → Stopped limits.now first old (lines_of fed) (standing desk.new.name desk.new.topic ms (D.faults disk.new) (D.part_faults disk.new)) (O.held sink.new) }
+    ensures ok { result ≡ Ok tt → D.tells → IsTied engine.old → (first : Standing) (old : Option (List ℕ)) (fed : List ℕ) → Going limits.now first old fed pending.now (standing engine.old (K.moments clock.old) (D.faults disk.old) (D.part_faults disk.old)) (O.held sink.old) → Told limits.now first (lines_of fed) (standing engine.new (K.moments clock.new) (D.faults disk.new) (D.part_faults disk.new)) old (O.held sink.new) }
+    ensures sink { result ≡ Err stop.Sink → D.tells → IsTied engine.old → (first : Standing) (old : Option (List ℕ)) (fed : List ℕ) → Going limits.now first old fed pending.now (standing engine.old (K.moments clock.old) (D.faults disk.old) (D.part_faults disk.old)) (O.held sink.old) → Broken limits.now first old (lines_of fed) (standing engine.new (K.moments clock.new) (D.faults disk.new) (D.part_faults disk.new)) (O.held sink.new) }
+    ensures disk { result ≡ Err stop.Disk → D.tells → IsTied engine.old → (first : Standing) (old : Option (List ℕ)) (fed : List ℕ) → Going limits.now first old fed pending.now (standing engine.old (K.moments clock.old) (D.faults disk.old) (D.part_faults disk.old)) (O.held sink.old) → Stopped limits.now first old (lines_of fed) (standing engine.new (K.moments clock.new) (D.faults disk.new) (D.part_faults disk.new)) (O.held sink.new) }
     ensures stopped { result ≡ Err stop.Disk → (Stands limits.now.line pending.now [] → ⊥) × EndsWithFault (O.held sink.old) (O.held sink.new) }
-    ensures name { desk.new.name ≡ desk.old.name }
-    ensures part { IsPartOne limits.now desk.new.topic }
-    ensures tied { IsFrontOf desk.old.topic → IsFrontOf desk.new.topic }
-    ensures backed { Backed StandsIn (D.image disk.new) desk.new.topic.content }
-    ensures images { Since D.moment D.image D.left_since (KeepsAbove (desk.old.name ∷ [])) disk.old disk.new }
+    ensures names { engine.new.names ≡ engine.old.names }
+    ensures limits { engine.new.limits ≡ engine.old.limits }
+    ensures engine { IsEngine engine.new }
+    ensures tied { IsTied engine.old → IsTied engine.new }
+    ensures backed { IsBacked (D.image disk.new) engine.new }
+    ensures images { Since D.moment D.image D.left_since (KeepsAboveIf (IsTied engine.old) engine.old.names) disk.old disk.new }
     ensures beside { O.rest sink.new ≡ O.rest sink.old }
     ensures writes_later { O.faults sink.old ≤ O.faults sink.new }
     ensures writes { result ≡ Err stop.Sink → Rose (O.faults sink.old) (O.faults sink.new) }
-    ensures cause { CountsFaults 1 (D.faults disk.old) (D.faults disk.new) (D.part_faults disk.old) (D.part_faults disk.new) (result ≡ Err stop.Disk) }
+    ensures cause { CountsWithin (length engine.old.names) (D.faults disk.old) (D.faults disk.new) (D.part_faults disk.old) (D.part_faults disk.new) (result ≡ Err stop.Disk) }
 {
     if pending.is_empty() {
         return Ok(());
     }
-    answer_line(alloc, limits, pending, desk, disk, steps, out, sink)
+    answer_line(
+        alloc, limits, pending, engine, disk, steps, out, sink, clock,
+    )
 }
 
 /// Takes the next bytes, at most so many, into the front of the chunk.

@@ -5,7 +5,8 @@ ghost use Rattle.txn_base.specs.Room.{capacity};
 ghost use Rattle.txn_base.specs.declared.reply.Reply.{Reply};
 ghost use Rattle.txn_wire.specs.Replies.{text_of};
 ghost use Rattle.txn_wire.specs.Short.{IsShort};
-ghost use Rattle.txn_run.specs.Told.{IsTellable, StandsFor};
+ghost use Rattle.txn_engine.specs.Told.{IsTellable};
+ghost use Rattle.txn_run.specs.Told.{StandsFor};
 
 use std::alloc::{AllocError, Global};
 use txn_base::{Bytes, Failed, Refusal, Reply, Sink, put_all};

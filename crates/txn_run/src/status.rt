@@ -1,5 +1,9 @@
 //! How a run ended.
+ghost use Rattle.std.specs.Prelude.{◌≡◌};
+ghost use Rattle.txn_run.specs.Status.{unopened};
+
 use txn_base::{FileId, Usage};
+use txn_engine::EngineError;
 
 /// How a run ended. The program's status is the number beside it.
 #[derive(Debug, Drop)]
@@ -14,10 +18,21 @@ pub enum RunStatus {
     ReadFault,
     /// 4: the sink failed.
     WriteFault,
-    /// 5: the disk failed while opening, or a publish failed and was answered so.
+    /// 5: the disk failed while opening, or a write failed and was answered so.
     DiskFault,
     /// 6: memory ran out while the words were read or while opening.
     NoMemory,
     /// 7: as many bytes as the limits allow were taken.
     TooMuch,
+}
+
+/// The status of a run whose parts couldn't be opened.
+pub fn unopened(error: EngineError) -> RunStatus
+    ensures { result ≡ unopened error }
+{
+    match error {
+        EngineError::Damaged { file, entry } => RunStatus::Damaged { file, entry },
+        EngineError::Fault => RunStatus::DiskFault,
+        EngineError::NoMemory => RunStatus::NoMemory,
+    }
 }

@@ -1,13 +1,32 @@
 //! The words of a command line, read by hand.
-ghost use Rattle.std.specs.Prelude.{◌≡◌, true, IfOk};
+ghost use Rattle.std.specs.Prelude.{◌≡◌, ℕ, List, [], ◌∷◌, All, Ok, Err, true, IfOk, IfErr};
 ghost use Rattle.std.specs.List.{list_all};
 ghost use Rattle.txn_base.specs.Names.{is_name_byte, begins_with_dash, is_topic_name};
+ghost use Rattle.txn_model.specs.Names.{NamesLawful};
 ghost use Rattle.txn_run.specs.Words.{is_bad, any_bad, command_of};
 ghost use Rattle.txn_run.specs.Status.{ReadsWords};
 
 use crate::status::RunStatus;
 use std::alloc::Global;
 use txn_base::{Text, Usage};
+
+/// The names of the parts, which are the one topic that the words name, or the status that they come to.
+pub fn names_of(alloc: Global, words: &[Text]) -> Result<Vec<Text>, RunStatus>
+    ensures words { IfOk result (λ names. (name : List ℕ) × (names.items ≡ name ∷ []) × (command_of words.now ≡ Ok name)) }
+    ensures refused { IfErr result (λ status. ReadsWords (Err status) (command_of words.now)) }
+    ensures lawful { IfOk result (λ names. NamesLawful names.items) }
+    ensures topics { IfOk result (λ names. All (λ name. is_topic_name name ≡ true) names.items) }
+{
+    let name = match topic_of(alloc, words) {
+        Ok(name) => name,
+        Err(status) => return Err(status),
+    };
+    let mut names = Vec::new(alloc);
+    match names.push(name) {
+        Ok(()) => Ok(names),
+        Err(_) => Err(RunStatus::NoMemory),
+    }
+}
 
 /// The topic that the words name, or the status that they come to.
 #[tactic(auto, unfolding(crate::specs::Words::command_of))]

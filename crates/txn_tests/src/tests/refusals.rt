@@ -36,3 +36,34 @@ fn bad_lines_and_unknown_parts(rt: HostRuntime) -> Result<(), AllocError> {
     assert_eq!(rt; disk.file_bytes(TOPIC), &[][..]);
     Ok(())
 }
+
+// Transactions that weren't begun, a coordinator that isn't there, and timeouts outside 1 ms to a day.
+#[test]
+fn refusals_of_transactions(rt: HostRuntime) -> Result<(), AllocError> {
+    let mut disk = MemDisk::new(rt.alloc(), &[])?;
+    let input = r#"{"do":"status","txn":[0,0]}
+{"do":"add","txn":[0,0],"part":"orders"}
+{"do":"add","txn":[0,0],"part":"x"}
+{"do":"publish","topic":"orders","data":"a","txn":[0,0]}
+{"do":"publish","topic":"orders","data":"a","txn":[1,0]}
+{"do":"new","timeout":0}
+{"do":"new","timeout":86400001}
+"#;
+    let ran = run_lines(rt.alloc(), &Limits::standard(), &mut disk, input)?;
+    assert_eq!(rt;
+        ran.shown(),
+        (
+            "Ok",
+            r#"{"no":"not_found"}
+{"no":"not_found"}
+{"name":"x","no":"unknown_part"}
+{"no":"not_found"}
+{"no":"unknown_coordinator","number":1}
+{"no":"bad_timeout"}
+{"no":"bad_timeout"}
+"#
+        )
+    );
+    assert_eq!(rt; disk.file_bytes(TOPIC), &[][..]);
+    Ok(())
+}

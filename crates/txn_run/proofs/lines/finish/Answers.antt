@@ -4,19 +4,19 @@ use Rattle.txn_run.proofs.Feeding.{told_all, told_last, broken_last, stopped_las
 use Rattle.txn_run.proofs.lines.finish.Goals as goal
 
 pub returns-clause-ok : goal.returns-clause-ok
-returns-clause-ok g c ok told tied ms first old fed so =
-    told_last _ first old fed _ _ _ _ _ so (sym (c.is_empty.ensures _ (last_piece fed) so.piece) ∙ c.if-is_empty.false) (c.answer_line.ensures.ok ok told tied ms (last_piece fed) so.piece)
+returns-clause-ok g c ok told tied first old fed so =
+    told_last _ first old fed _ _ _ _ _ so (sym (c.is_empty.ensures _ (last_piece fed) so.piece) ∙ c.if-is_empty.false) (c.answer_line.ensures.ok ok told tied (last_piece fed) so.piece)
 
 pub returns-clause-sink : goal.returns-clause-sink
-returns-clause-sink g c stopped told tied ms first old fed so =
-    broken_last _ first old fed _ _ _ _ _ so (sym (c.is_empty.ensures _ (last_piece fed) so.piece) ∙ c.if-is_empty.false) (c.answer_line.ensures.sink stopped told tied ms (last_piece fed) so.piece)
+returns-clause-sink g c stopped told tied first old fed so =
+    broken_last _ first old fed _ _ _ _ _ so (sym (c.is_empty.ensures _ (last_piece fed) so.piece) ∙ c.if-is_empty.false) (c.answer_line.ensures.sink stopped told tied (last_piece fed) so.piece)
 
 pub returns-clause-disk : goal.returns-clause-disk
-returns-clause-disk g c stopped told tied ms first old fed so =
-    stopped_last _ first old fed _ _ _ _ _ so (sym (c.is_empty.ensures _ (last_piece fed) so.piece) ∙ c.if-is_empty.false) (c.answer_line.ensures.disk stopped told tied ms (last_piece fed) so.piece)
+returns-clause-disk g c stopped told tied first old fed so =
+    stopped_last _ first old fed _ _ _ _ _ so (sym (c.is_empty.ensures _ (last_piece fed) so.piece) ∙ c.if-is_empty.false) (c.answer_line.ensures.disk stopped told tied (last_piece fed) so.piece)
 
 pub returns-then-is_empty-clause-ok : goal.returns-then-is_empty-clause-ok
-returns-then-is_empty-clause-ok g c ok told tied ms first old fed so = told_all _ first old fed _ _ _ so (sym (c.is_empty.ensures _ (last_piece fed) so.piece) ∙ c.if-is_empty.true)
+returns-then-is_empty-clause-ok g c ok told tied first old fed so = told_all _ first old fed _ _ _ so (sym (c.is_empty.ensures _ (last_piece fed) so.piece) ∙ c.if-is_empty.true)
 
 pub returns-clause-stopped : goal.returns-clause-stopped
 returns-clause-stopped g c stopped = ((λ none. true≢false (sym (c.is_empty.ensures _ [] none) ∙ c.if-is_empty.false)), c.answer_line.ensures.stopped stopped)

@@ -1,12 +1,32 @@
-use Rattle.std.proofs.Common.{ℕ, List}
+use Rattle.std.proofs.Common.{◌≡◌, ⊎_elim, inl, inr, ℕ, List, [], ◌∷◌, subst, length, ap}
 use Rattle.txn_model.specs.declared.world.World.{World}
+use Rattle.txn_engine.specs.Above.{KeepsAbove}
+use Rattle.txn_engine.specs.Opening.{AreParts, IsPartFile, IsFirstDamage}
+use Rattle.txn_base.specs.Disk.{Since}
 use Rattle.txn_run.specs.Run.{RunOf}
 use Rattle.txn_run.specs.Words.{command_of}
-use Rattle.txn_run.proofs.Running.{same_name, run_named}
+use Rattle.txn_run.proofs.Running.{named_as, run_named}
 use Rattle.txn_run.proofs.program.run.Goals as goal
 
 pub returns-in-Ok-clause-answers : goal.returns-in-Ok-clause-answers
 returns-in-Ok-clause-answers g c name command told =
+    let named = c.in-Ok.ensures.words in
     run_named (g.D.Disk.seen c.args.disk.now)
-    (λ (n : List ℕ) (w : World). RunOf c.with_count.result c.args.limits.now n w (g.K.Clock.moments c.args.clock.now) (g.D.Disk.image c.args.disk.now) (g.D.Disk.image c.with_count.new.disk) (g.D.Disk.faults c.args.disk.now) (g.D.Disk.faults c.with_count.new.disk) (g.D.Disk.part_faults c.args.disk.now) (g.D.Disk.part_faults c.with_count.new.disk) (g.I.Source.left c.args.source.now) (g.I.Source.left c.with_count.new.source) (g.O.Sink.held c.args.sink.now) (g.O.Sink.held c.with_count.new.sink))
-    c.in-Ok.name name (same_name (command_of c.args.words.now) c.in-Ok.name name c.in-Ok.ensures.words command) (c.with_count.ensures.answers told (g.K.Clock.moments c.args.clock.now))
+    (λ (ns : List (List ℕ)) (w : World). RunOf c.with_count.result c.args.limits.now ns w (g.K.Clock.moments c.args.clock.now) (g.K.Clock.moments c.with_count.new.clock) (g.D.Disk.image c.args.disk.now) (g.D.Disk.image c.with_count.new.disk) (g.D.Disk.faults c.args.disk.now) (g.D.Disk.faults c.with_count.new.disk) (g.D.Disk.part_faults c.args.disk.now) (g.D.Disk.part_faults c.with_count.new.disk) (g.I.Source.left c.args.source.now) (g.I.Source.left c.with_count.new.source) (g.O.Sink.held c.args.sink.now) (g.O.Sink.held c.with_count.new.sink))
+    c.in-Ok.names.items (name ∷ []) (named_as (command_of c.args.words.now) c.in-Ok.names.items named.0 name named.1 named.2 command) (c.with_count.ensures.answers told)
+
+pub returns-in-Ok-clause-images : goal.returns-in-Ok-clause-images
+returns-in-Ok-clause-images g c name command =
+    let named = c.in-Ok.ensures.words in
+    subst (λ (ns : List (List ℕ)). Since g.D.Disk.moment g.D.Disk.image g.D.Disk.left_since (KeepsAbove ns) c.args.disk.now c.with_count.new.disk) (named_as (command_of c.args.words.now) c.in-Ok.names.items named.0 name named.1 named.2 command) c.with_count.ensures.images
+
+pub returns-in-Ok-clause-damaged : goal.returns-in-Ok-clause-damaged
+returns-in-Ok-clause-damaged g c file entry is =
+    let one : length c.in-Ok.names.items ≡ 1 = ap length c.in-Ok.ensures.words.1 in
+    let damaged = c.with_count.ensures.damaged file entry is in
+    (subst (λ (n : ℕ). IsPartFile n file) one damaged.0, λ told. subst (λ (n : ℕ). IsFirstDamage n (g.D.Disk.seen c.args.disk.now) file entry) one (damaged.1 told))
+
+pub returns-in-Ok-clause-stopped : goal.returns-in-Ok-clause-stopped
+returns-in-Ok-clause-stopped g c is =
+    let one : length c.in-Ok.names.items ≡ 1 = ap length c.in-Ok.ensures.words.1 in
+    ⊎_elim (λ still. inl still) (λ last. inr (last.0, λ told. subst (λ (n : ℕ). AreParts n (g.D.Disk.seen c.args.disk.now)) one (last.1 told))) (c.with_count.ensures.stopped is)

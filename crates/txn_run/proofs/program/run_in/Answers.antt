@@ -1,4 +1,4 @@
-use Rattle.std.proofs.Common.{◌≡◌, ◌≤◌, ◌+◌, ◌∷◌, [], take, length, arith, length-take, refl, ap, Err, ◌∙◌}
+use Rattle.std.proofs.Common.{◌≡◌, ◌≤◌, ◌+◌, take, length, arith, length-take, refl, ap, Err, ◌∙◌}
 use Rattle.std.proofs.KnownBytes.{Consumes-kept}
 use Rattle.txn_run.proofs.Feeding.{reads_more, reads_broken, reads_stopped}
 use Rattle.txn_run.proofs.Keeping.{keeps_then, counts_then, counts_none}
@@ -7,8 +7,8 @@ use Rattle.txn_run.proofs.Telling.{grows_then, ends_after}
 use Rattle.txn_run.proofs.program.run_in.Goals as goal
 
 pub returns-in-Err-clause-answers : goal.returns-in-Err-clause-answers
-returns-in-Err-clause-answers g c told tied ms =
-    let e = reads_kept c.args.limits.now _ _ _ c.loop-taken.taken c.loop-taken.pending _ _ _ _ (c.loop-taken.invariant.so told tied ms) c.in-Err.ensures.bytes in
+returns-in-Err-clause-answers g c told tied =
+    let e = reads_kept c.args.limits.now _ _ _ c.loop-taken.taken c.loop-taken.pending _ _ _ _ (c.loop-taken.invariant.so told tied) c.in-Err.ensures.bytes in
     (e.0, e.1, (omega (arith, e.2, c.loop-taken-test.true), e.3.told))
 
 pub returns-in-Err-clause-taken : goal.returns-in-Err-clause-taken
@@ -17,28 +17,28 @@ returns-in-Err-clause-taken g c =
     (so.0, Consumes-kept _ _ _ so.0 so.1 c.in-Err.ensures.bytes, omega (arith, so.2, c.loop-taken.invariant.within), λ is. cc)
 
 pub returns-in-Ok-finish-clause-answers : goal.returns-in-Ok-finish-clause-answers
-returns-in-Ok-finish-clause-answers g c told tied ms =
-    let e = reads_end c.args.limits.now _ _ _ c.loop-taken.taken c.loop-taken.pending _ _ _ _ c.take_into.new.chunk c.in-Ok.count c.if-count-eq0.true (c.loop-taken.invariant.so told tied ms) c.in-Ok.ensures.bytes.0 in
-    (e.0, e.1, (c.in-Ok.ensures.bytes.1 c.if-count-eq0.true (omega (arith, c.min-most.ensures, c.loop-taken-test.true)), omega (arith, e.2, c.loop-taken-test.true), c.in-Ok-finish.ensures.ok refl told (c.loop-taken.invariant.tied tied) ms _ _ e.0 e.3))
+returns-in-Ok-finish-clause-answers g c told tied =
+    let e = reads_end c.args.limits.now _ _ _ c.loop-taken.taken c.loop-taken.pending _ _ _ _ c.take_into.new.chunk c.in-Ok.count c.if-count-eq0.true (c.loop-taken.invariant.so told tied) c.in-Ok.ensures.bytes.0 in
+    (e.0, e.1, (c.in-Ok.ensures.bytes.1 c.if-count-eq0.true (omega (arith, c.min-most.ensures, c.loop-taken-test.true)), omega (arith, e.2, c.loop-taken-test.true), c.in-Ok-finish.ensures.ok refl told (c.loop-taken.invariant.tied tied) _ _ e.0 e.3))
 
 pub returns-in-Ok-finish-clause-images : goal.returns-in-Ok-finish-clause-images
-returns-in-Ok-finish-clause-images g c = keeps_then g.D.Disk.moment g.D.Disk.image g.D.Disk.left_since (c.args.desk.now.name ∷ []) (c.loop-taken.desk.name ∷ []) c.args.disk.now c.loop-taken.disk c.finish.new.disk (ap (λ n. n ∷ []) c.loop-taken.invariant.name) c.loop-taken.invariant.images c.in-Ok-finish.ensures.images
+returns-in-Ok-finish-clause-images g c = keeps_then g.D.Disk.moment g.D.Disk.image g.D.Disk.left_since _ _ c.args.engine.now.names c.loop-taken.engine.names c.args.disk.now c.loop-taken.disk c.finish.new.disk c.loop-taken.invariant.names c.loop-taken.invariant.tied c.loop-taken.invariant.images c.in-Ok-finish.ensures.images
 
 pub returns-in-Err-Sink-clause-answers : goal.returns-in-Err-Sink-clause-answers
-returns-in-Err-Sink-clause-answers g c told tied ms =
-    let e = reads_end c.args.limits.now _ _ _ c.loop-taken.taken c.loop-taken.pending _ _ _ _ c.take_into.new.chunk c.in-Ok.count c.if-count-eq0.true (c.loop-taken.invariant.so told tied ms) c.in-Ok.ensures.bytes.0 in
-    (e.0, e.1, (omega (arith, e.2, c.loop-taken-test.true), c.in-Err-Sink.ensures.sink (ap Err c.in-Err-Sink.field-0-is) told (c.loop-taken.invariant.tied tied) ms _ _ e.0 e.3))
+returns-in-Err-Sink-clause-answers g c told tied =
+    let e = reads_end c.args.limits.now _ _ _ c.loop-taken.taken c.loop-taken.pending _ _ _ _ c.take_into.new.chunk c.in-Ok.count c.if-count-eq0.true (c.loop-taken.invariant.so told tied) c.in-Ok.ensures.bytes.0 in
+    (e.0, e.1, (omega (arith, e.2, c.loop-taken-test.true), c.in-Err-Sink.ensures.sink (ap Err c.in-Err-Sink.field-0-is) told (c.loop-taken.invariant.tied tied) _ _ e.0 e.3))
 
 pub returns-in-Err-Sink-clause-images : goal.returns-in-Err-Sink-clause-images
-returns-in-Err-Sink-clause-images g c = keeps_then g.D.Disk.moment g.D.Disk.image g.D.Disk.left_since (c.args.desk.now.name ∷ []) (c.loop-taken.desk.name ∷ []) c.args.disk.now c.loop-taken.disk c.finish.new.disk (ap (λ n. n ∷ []) c.loop-taken.invariant.name) c.loop-taken.invariant.images c.in-Err-Sink.ensures.images
+returns-in-Err-Sink-clause-images g c = keeps_then g.D.Disk.moment g.D.Disk.image g.D.Disk.left_since _ _ c.args.engine.now.names c.loop-taken.engine.names c.args.disk.now c.loop-taken.disk c.finish.new.disk c.loop-taken.invariant.names c.loop-taken.invariant.tied c.loop-taken.invariant.images c.in-Err-Sink.ensures.images
 
 pub returns-in-Err-Disk-clause-answers : goal.returns-in-Err-Disk-clause-answers
-returns-in-Err-Disk-clause-answers g c told tied ms =
-    let e = reads_end c.args.limits.now _ _ _ c.loop-taken.taken c.loop-taken.pending _ _ _ _ c.take_into.new.chunk c.in-Ok.count c.if-count-eq0.true (c.loop-taken.invariant.so told tied ms) c.in-Ok.ensures.bytes.0 in
-    (e.0, e.1, (omega (arith, e.2, c.loop-taken-test.true), c.in-Err-Disk.ensures.disk (ap Err c.in-Err-Disk.field-0-is) told (c.loop-taken.invariant.tied tied) ms _ _ e.0 e.3))
+returns-in-Err-Disk-clause-answers g c told tied =
+    let e = reads_end c.args.limits.now _ _ _ c.loop-taken.taken c.loop-taken.pending _ _ _ _ c.take_into.new.chunk c.in-Ok.count c.if-count-eq0.true (c.loop-taken.invariant.so told tied) c.in-Ok.ensures.bytes.0 in
+    (e.0, e.1, (omega (arith, e.2, c.loop-taken-test.true), c.in-Err-Disk.ensures.disk (ap Err c.in-Err-Disk.field-0-is) told (c.loop-taken.invariant.tied tied) _ _ e.0 e.3))
 
 pub returns-in-Err-Disk-clause-images : goal.returns-in-Err-Disk-clause-images
-returns-in-Err-Disk-clause-images g c = keeps_then g.D.Disk.moment g.D.Disk.image g.D.Disk.left_since (c.args.desk.now.name ∷ []) (c.loop-taken.desk.name ∷ []) c.args.disk.now c.loop-taken.disk c.finish.new.disk (ap (λ n. n ∷ []) c.loop-taken.invariant.name) c.loop-taken.invariant.images c.in-Err-Disk.ensures.images
+returns-in-Err-Disk-clause-images g c = keeps_then g.D.Disk.moment g.D.Disk.image g.D.Disk.left_since _ _ c.args.engine.now.names c.loop-taken.engine.names c.args.disk.now c.loop-taken.disk c.finish.new.disk c.loop-taken.invariant.names c.loop-taken.invariant.tied c.loop-taken.invariant.images c.in-Err-Disk.ensures.images
 
 pub loop-taken-preserved : goal.loop-taken-preserved
 loop-taken-preserved g c =
@@ -56,22 +56,23 @@ loop-taken-preserved g c =
       grown = grows_then _ _ _ was.grown now.grown;
       fresh = λ none. absurd (none_taken c.loop-taken.taken c.in-Ok.count c.if-count-eq0.false none);
       whole = now.whole;
-      part = now.part;
-      name = now.name ∙ was.name;
+      names = now.names ∙ was.names;
+      limits = now.limits ∙ was.limits;
+      engine = now.engine;
       tied = λ t. now.tied (was.tied t);
       backed = now.backed;
-      images = keeps_then g.D.Disk.moment g.D.Disk.image g.D.Disk.left_since (c.args.desk.now.name ∷ []) (c.loop-taken.desk.name ∷ []) c.args.disk.now c.loop-taken.disk c.feed.new.disk (ap (λ n. n ∷ []) c.loop-taken.invariant.name) c.loop-taken.invariant.images c.in-Ok-feed.ensures.images;
-      counts = counts_none _ _ (g.D.Disk.part_faults c.args.disk.now) (g.D.Disk.part_faults c.feed.new.disk) _ (counts_then _ _ _ (g.D.Disk.part_faults c.args.disk.now) (g.D.Disk.part_faults c.loop-taken.disk) (g.D.Disk.part_faults c.feed.new.disk) _ _ was.counts now.cause);
+      images = keeps_then g.D.Disk.moment g.D.Disk.image g.D.Disk.left_since _ _ c.args.engine.now.names c.loop-taken.engine.names c.args.disk.now c.loop-taken.disk c.feed.new.disk c.loop-taken.invariant.names c.loop-taken.invariant.tied c.loop-taken.invariant.images c.in-Ok-feed.ensures.images;
+      counts = counts_none _ _ _ (g.D.Disk.part_faults c.args.disk.now) (g.D.Disk.part_faults c.feed.new.disk) _ (counts_then c.args.engine.now.names c.loop-taken.engine.names _ _ _ (g.D.Disk.part_faults c.args.disk.now) (g.D.Disk.part_faults c.loop-taken.disk) (g.D.Disk.part_faults c.feed.new.disk) _ _ was.names was.counts now.cause);
       came = came_more _ _ _ was.came.0 bytes c.loop-taken.taken c.in-Ok.count was.came.1 was.came.2 c.in-Ok.ensures.bytes.0 long;
-      so = λ told tied ms. reads_more c.args.limits.now _ _ _ c.loop-taken.taken c.loop-taken.pending _ _ _ bytes c.in-Ok.count _ c.feed.new.pending _ _ (was.so told tied ms) c.in-Ok.ensures.bytes.0 long (now.ok refl told (was.tied tied) ms);
+      so = λ told tied. reads_more c.args.limits.now _ _ _ c.loop-taken.taken c.loop-taken.pending _ _ _ bytes c.in-Ok.count _ c.feed.new.pending _ _ (was.so told tied) c.in-Ok.ensures.bytes.0 long (now.ok refl told (was.tied tied));
     }
 
 pub returns-in-Err-Sink-feed-clause-answers : goal.returns-in-Err-Sink-feed-clause-answers
-returns-in-Err-Sink-feed-clause-answers g c told tied ms =
+returns-in-Err-Sink-feed-clause-answers g c told tied =
     let bytes = take c.in-Ok.count c.take_into.new.chunk in
     let long : length bytes ≡ c.in-Ok.count = omega (arith, length-take c.in-Ok.count c.take_into.new.chunk, c.in-Ok.ensures.bound, c.min-most.ensures, c.take_into.auto.chunk) in
     let within : c.loop-taken.taken + c.in-Ok.count ≤ c.args.limits.now.input = omega (arith, c.in-Ok.ensures.bound, c.min-most.ensures) in
-    reads_broken c.args.limits.now c.args.limits.now.input _ _ _ c.loop-taken.taken c.loop-taken.pending _ _ _ bytes c.in-Ok.count _ _ _ (c.loop-taken.invariant.so told tied ms) c.in-Ok.ensures.bytes.0 long within (c.in-Err-Sink-feed.ensures.sink (ap Err c.in-Err-Sink-feed.field-0-is) told (c.loop-taken.invariant.tied tied) ms)
+    reads_broken c.args.limits.now c.args.limits.now.input _ _ _ c.loop-taken.taken c.loop-taken.pending _ _ _ bytes c.in-Ok.count _ _ _ (c.loop-taken.invariant.so told tied) c.in-Ok.ensures.bytes.0 long within (c.in-Err-Sink-feed.ensures.sink (ap Err c.in-Err-Sink-feed.field-0-is) told (c.loop-taken.invariant.tied tied))
 
 pub returns-in-Err-Sink-feed-clause-taken : goal.returns-in-Err-Sink-feed-clause-taken
 returns-in-Err-Sink-feed-clause-taken g c =
@@ -82,14 +83,14 @@ returns-in-Err-Sink-feed-clause-taken g c =
     (all.0, all.1, omega (arith, all.2, c.in-Ok.ensures.bound, c.min-most.ensures), λ is. cc)
 
 pub returns-in-Err-Sink-feed-clause-images : goal.returns-in-Err-Sink-feed-clause-images
-returns-in-Err-Sink-feed-clause-images g c = keeps_then g.D.Disk.moment g.D.Disk.image g.D.Disk.left_since (c.args.desk.now.name ∷ []) (c.loop-taken.desk.name ∷ []) c.args.disk.now c.loop-taken.disk c.feed.new.disk (ap (λ n. n ∷ []) c.loop-taken.invariant.name) c.loop-taken.invariant.images c.in-Err-Sink-feed.ensures.images
+returns-in-Err-Sink-feed-clause-images g c = keeps_then g.D.Disk.moment g.D.Disk.image g.D.Disk.left_since _ _ c.args.engine.now.names c.loop-taken.engine.names c.args.disk.now c.loop-taken.disk c.feed.new.disk c.loop-taken.invariant.names c.loop-taken.invariant.tied c.loop-taken.invariant.images c.in-Err-Sink-feed.ensures.images
 
 pub returns-in-Err-Disk-feed-clause-answers : goal.returns-in-Err-Disk-feed-clause-answers
-returns-in-Err-Disk-feed-clause-answers g c told tied ms =
+returns-in-Err-Disk-feed-clause-answers g c told tied =
     let bytes = take c.in-Ok.count c.take_into.new.chunk in
     let long : length bytes ≡ c.in-Ok.count = omega (arith, length-take c.in-Ok.count c.take_into.new.chunk, c.in-Ok.ensures.bound, c.min-most.ensures, c.take_into.auto.chunk) in
     let within : c.loop-taken.taken + c.in-Ok.count ≤ c.args.limits.now.input = omega (arith, c.in-Ok.ensures.bound, c.min-most.ensures) in
-    reads_stopped c.args.limits.now c.args.limits.now.input _ _ _ c.loop-taken.taken c.loop-taken.pending _ _ _ bytes c.in-Ok.count _ _ _ (c.loop-taken.invariant.so told tied ms) c.in-Ok.ensures.bytes.0 long within (c.in-Err-Disk-feed.ensures.disk (ap Err c.in-Err-Disk-feed.field-0-is) told (c.loop-taken.invariant.tied tied) ms)
+    reads_stopped c.args.limits.now c.args.limits.now.input _ _ _ c.loop-taken.taken c.loop-taken.pending _ _ _ bytes c.in-Ok.count _ _ _ (c.loop-taken.invariant.so told tied) c.in-Ok.ensures.bytes.0 long within (c.in-Err-Disk-feed.ensures.disk (ap Err c.in-Err-Disk-feed.field-0-is) told (c.loop-taken.invariant.tied tied))
 
 pub returns-in-Err-Disk-feed-clause-taken : goal.returns-in-Err-Disk-feed-clause-taken
 returns-in-Err-Disk-feed-clause-taken g c =
@@ -100,11 +101,11 @@ returns-in-Err-Disk-feed-clause-taken g c =
     (all.0, all.1, omega (arith, all.2, c.in-Ok.ensures.bound, c.min-most.ensures), λ is. cc)
 
 pub returns-in-Err-Disk-feed-clause-images : goal.returns-in-Err-Disk-feed-clause-images
-returns-in-Err-Disk-feed-clause-images g c = keeps_then g.D.Disk.moment g.D.Disk.image g.D.Disk.left_since (c.args.desk.now.name ∷ []) (c.loop-taken.desk.name ∷ []) c.args.disk.now c.loop-taken.disk c.feed.new.disk (ap (λ n. n ∷ []) c.loop-taken.invariant.name) c.loop-taken.invariant.images c.in-Err-Disk-feed.ensures.images
+returns-in-Err-Disk-feed-clause-images g c = keeps_then g.D.Disk.moment g.D.Disk.image g.D.Disk.left_since _ _ c.args.engine.now.names c.loop-taken.engine.names c.args.disk.now c.loop-taken.disk c.feed.new.disk c.loop-taken.invariant.names c.loop-taken.invariant.tied c.loop-taken.invariant.images c.in-Err-Disk-feed.ensures.images
 
 pub returns-clause-answers : goal.returns-clause-answers
-returns-clause-answers g c told tied ms =
-    let r = c.loop-taken.invariant.so told tied ms in
+returns-clause-answers g c told tied =
+    let r = c.loop-taken.invariant.so told tied in
     (r.fed, r.came, (omega (arith, r.count, c.loop-taken.invariant.within, c.loop-taken-test.false), r.going.told))
 
 pub returns-in-Err-Disk-clause-taken : goal.returns-in-Err-Disk-clause-taken

@@ -1,0 +1,81 @@
+use Rattle.std.proofs.Common.{◌∙◌, inl, inr, refl, sym, ap, Err, subst}
+use Rattle.std.proofs.KnownBytes.{Keeps-refl}
+use Rattle.txn_model.specs.Replies.{Standing}
+use Rattle.txn_run.specs.Going.{standing}
+use Rattle.txn_run.specs.Run.{Ended, IsEarly, IsAnswered, first_standing}
+use Rattle.txn_run.proofs.Counted.{counted_since}
+use Rattle.txn_run.proofs.Keeping.{counts_then, counts_but}
+use Rattle.txn_run.proofs.Running.{opening_above, running_above, image_above, first_is, leaves_here, early_here, damage_of, fault_of, not_answered}
+use Rattle.txn_run.proofs.Undamaged.{sound_not_damaged}
+use Rattle.txn_run.proofs.program.run_over.Goals as goal
+
+pub returns-in-Ok-open_disk-clause-images : goal.returns-in-Ok-open_disk-clause-images
+returns-in-Ok-open_disk-clause-images g c =
+    running_above g.D.Disk.moment g.D.Disk.image g.D.Disk.left_since c.args.names.items _ g.D.Disk.tells g.met.D.Disk.image_is_told c.in-Ok-open_disk.ensures.tied c.args.disk.now c.open_disk.new.disk c.run_in.new.disk
+    c.in-Ok-open_disk.engine.names c.in-Ok-open_disk.ensures.opened.0 c.in-Ok-open_disk.ensures.images c.run_in.ensures.images
+
+pub returns-in-Ok-open_disk-clause-answers : goal.returns-in-Ok-open_disk-clause-answers
+returns-in-Ok-open_disk-clause-answers g c told sound =
+    let opened = c.in-Ok-open_disk.ensures.opened in
+    let ran = c.run_in.ensures.answers told (c.in-Ok-open_disk.ensures.tied told) in
+    let first : Standing = first_standing c.args.names.items sound.world (g.K.Clock.moments c.args.clock.now) (g.D.Disk.faults c.open_disk.new.disk) (g.D.Disk.part_faults c.open_disk.new.disk) in
+    let last : Standing = standing c.run_in.new.engine (g.K.Clock.moments c.run_in.new.clock) (g.D.Disk.faults c.run_in.new.disk) (g.D.Disk.part_faults c.run_in.new.disk) in
+    let ended : Ended c.run_in.result c.args.limits.now first (g.O.Sink.held c.args.sink.now) ran.0 last (g.O.Sink.held c.run_in.new.sink) (g.I.Source.left c.run_in.new.source) =
+    subst (λ (s : Standing). Ended c.run_in.result c.args.limits.now s (g.O.Sink.held c.args.sink.now) ran.0 last (g.O.Sink.held c.run_in.new.sink) (g.I.Source.left c.run_in.new.source))
+    (first_is c.args.names.items c.in-Ok-open_disk.engine sound.world sound.stands.named (c.in-Ok-open_disk.ensures.table told sound.world sound.stands) (g.K.Clock.moments c.args.clock.now) (g.D.Disk.faults c.open_disk.new.disk) (g.D.Disk.part_faults c.open_disk.new.disk))
+    ran.2 in
+    inr (record {
+      faults = g.D.Disk.faults c.open_disk.new.disk;
+      faults_of = g.D.Disk.part_faults c.open_disk.new.disk;
+      faults_later = c.in-Ok-open_disk.ensures.cause.later;
+      parts_later = c.in-Ok-open_disk.ensures.cause.parts_later;
+      last = last;
+      last_moments = refl;
+      last_faults = refl;
+      last_parts = refl;
+      taken = ran.0;
+      came = ran.1;
+      told = ended;
+      counted = counted_since (g.D.Disk.faults c.args.disk.now) c.run_in.result c.args.limits.now first (g.O.Sink.held c.args.sink.now) ran.0 last (g.O.Sink.held c.run_in.new.sink) (g.I.Source.left c.run_in.new.source) ended c.in-Ok-open_disk.ensures.cause.later;
+      leaves = λ all image at.
+          let since = running_above g.D.Disk.moment g.D.Disk.image g.D.Disk.left_since c.args.names.items _ g.D.Disk.tells g.met.D.Disk.image_is_told c.in-Ok-open_disk.ensures.tied c.args.disk.now c.open_disk.new.disk c.run_in.new.disk
+          c.in-Ok-open_disk.engine.names opened.0 c.in-Ok-open_disk.ensures.images c.run_in.ensures.images in
+          let above = image_above g.D.Disk.moment g.D.Disk.image g.D.Disk.left_since c.args.names.items c.args.disk.now c.run_in.new.disk since all image at in
+          leaves_here c.args.names.items c.run_in.new.engine c.run_in.ensures.engine (c.run_in.ensures.names ∙ opened.0) (g.D.Disk.image c.run_in.new.disk) c.run_in.ensures.backed image at above.0 above.1;
+    })
+
+pub returns-in-Ok-open_disk-clause-undamaged : goal.returns-in-Ok-open_disk-clause-undamaged
+returns-in-Ok-open_disk-clause-undamaged g c answered told = c.in-Ok-open_disk.ensures.undamaged told
+
+pub returns-in-Ok-open_disk-clause-stopped : goal.returns-in-Ok-open_disk-clause-stopped
+returns-in-Ok-open_disk-clause-stopped g c is = inr (c.run_in.ensures.stopped is, λ told. c.in-Ok-open_disk.ensures.undamaged told)
+
+pub returns-in-Ok-open_disk-clause-disk : goal.returns-in-Ok-open_disk-clause-disk
+returns-in-Ok-open_disk-clause-disk g c =
+    counts_then c.args.names.items c.in-Ok-open_disk.engine.names _ _ _ (g.D.Disk.part_faults c.args.disk.now) (g.D.Disk.part_faults c.open_disk.new.disk) (g.D.Disk.part_faults c.run_in.new.disk) _ _ c.in-Ok-open_disk.ensures.opened.0 c.in-Ok-open_disk.ensures.cause c.run_in.ensures.cause
+
+pub returns-in-Err-clause-images : goal.returns-in-Err-clause-images
+returns-in-Err-clause-images g c = opening_above g.D.Disk.moment g.D.Disk.image g.D.Disk.left_since c.args.names.items c.args.disk.now c.open_disk.new.disk c.in-Err.ensures.images
+
+pub returns-in-Err-clause-damaged : goal.returns-in-Err-clause-damaged
+returns-in-Err-clause-damaged g c file entry is = c.in-Err.ensures.damaged file entry (ap Err (damage_of c.in-Err.error file entry (sym c.unopened.ensures ∙ is)))
+
+pub returns-in-Err-clause-undamaged : goal.returns-in-Err-clause-undamaged
+returns-in-Err-clause-undamaged g c answered told = absurd (not_answered c.in-Err.error (subst IsAnswered c.unopened.ensures answered))
+
+pub returns-in-Err-clause-answers : goal.returns-in-Err-clause-answers
+returns-in-Err-clause-answers g c told sound =
+    inl (record {
+      is_early = subst IsEarly (sym c.unopened.ensures)
+          (early_here c.in-Err.error (λ file entry is. sound_not_damaged c.args.names.items c.requires.topics (g.D.Disk.seen c.args.disk.now) sound file entry ((c.in-Err.ensures.damaged file entry (ap Err is)).1 told)));
+      not_told = refl;
+      not_taken = Keeps-refl _;
+      not_put = Keeps-refl _;
+    })
+
+pub returns-in-Err-clause-stopped : goal.returns-in-Err-clause-stopped
+returns-in-Err-clause-stopped g c is = inl (refl, refl, refl)
+
+pub returns-in-Err-clause-disk : goal.returns-in-Err-clause-disk
+returns-in-Err-clause-disk g c =
+    counts_but _ _ _ (g.D.Disk.part_faults c.args.disk.now) (g.D.Disk.part_faults c.open_disk.new.disk) _ _ (λ is. ap Err (fault_of c.in-Err.error (sym c.unopened.ensures ∙ is))) c.in-Err.ensures.cause
