@@ -16,3 +16,7 @@ pub mod AtView
 pub mod Reading
 pub mod Published
 pub mod PublishedGoes
+pub mod OpeningFiles
+pub mod OpeningTopic
+pub mod OpeningLog
+pub mod OpeningAll

@@ -6,3 +6,4 @@ pub mod Told
 pub mod Refusals
 pub mod Publishing
 pub mod Opening
+pub mod Unopened

@@ -1,13 +1,18 @@
 -- What opening tells of the files.
-use Rattle.std.specs.Prelude.{◌≡◌, ◌⊎◌, ℕ, suc, ◌==◌, ◌<◌, ◌≤◌, if◌then◌else◌, List, [], length, take, All, slice_index_or}
+use Rattle.std.specs.Prelude.{◌≡◌, ◌⊎◌, ℕ, zero, suc, ◌<◌, ◌≤◌, false, List, [], length, take, All, slice_index_or}
 use Rattle.txn_base.specs.declared.entry.CoordEntry.{CoordEntry}
 use Rattle.txn_base.specs.declared.file_id.FileId.{FileId}
 use Rattle.txn_base.specs.Decoded.{coord_entry_of, coord_entries, topic_entries}
 use Rattle.txn_base.specs.Disk.{Files}
-use Rattle.txn_base.specs.Frames.{Record, Batch, records, Stands, IsDamagedAt}
+use Rattle.txn_base.specs.Frames.{Batch, records, Stands, IsDamagedAt}
 use Rattle.txn_base.specs.Records.{IsCoordRecord}
 use Rattle.txn_buffer.specs.Mending.{IsFirstBad}
 use Rattle.txn_buffer.specs.Record.{IsInGrammar}
+use Rattle.txn_buffer.specs.View as topic
+use Rattle.txn_buffer.specs.View.{TopicView}
+use Rattle.txn_coordinator.specs.View as coordinator
+use Rattle.txn_coordinator.specs.View.{CoordView}
+use Rattle.txn_ledger.specs.Found.{KeepsList}
 use Rattle.txn_model.specs.declared.world.World.{World}
 use Rattle.txn_model.specs.Coord.{CoordLawful, coord_allows}
 use Rattle.txn_model.specs.Skeletons.{coord_skeleton, coord_skeletons}
@@ -38,11 +43,11 @@ IsDamagedTopic bytes entry = IsDamagedAt bytes entry ⊎ ((batches : List Batch)
 
 -- Of n named parts, which are topics, the bytes of the part p are as they have to be; or they are damaged at this entry.
 abbrev pub IsPart : ℕ → ℕ → List ℕ → Type 0
-IsPart n 0 bytes = IsLog n bytes
+IsPart n zero bytes = IsLog n bytes
 IsPart n (suc p) bytes = IsTopicLedger bytes
 
 abbrev pub IsDamagedPart : ℕ → ℕ → List ℕ → ℕ → Type 0
-IsDamagedPart n 0 bytes entry = IsDamagedLog n bytes entry
+IsDamagedPart n zero bytes entry = IsDamagedLog n bytes entry
 IsDamagedPart n (suc p) bytes entry = IsDamagedTopic bytes entry
 
 -- The ledger of the coordinator and that of each of n topics are as they have to be.
@@ -56,6 +61,33 @@ pub record IsFirstDamage (n : ℕ) (files : Files) (file : FileId) (entry : ℕ)
   pub file_is : file ≡ ledger_file part
   pub damaged : IsDamagedPart n part (files (ledger_file part)) entry
   pub before : (p : ℕ) → p < part → IsPart n p (files (ledger_file p))
+
+-- The coordinator of n named parts is what these bytes stand for, and they are as they have to be; so is the topic.
+pub record IsCoordinatorOf (n : ℕ) (v : CoordView) (bytes : List ℕ) : Type 0 where
+  pub tied : coordinator.IsFrontOf v
+  pub stands : Stands bytes v.content.batches
+  pub grammar : All (λ r. IsCoordRecord r (coord_entry_of r)) (records v.content.batches)
+  pub lawful : CoordLawful n (coord_skeletons (coord_entries v.content.batches))
+
+pub record IsTopicOf (v : TopicView) (bytes : List ℕ) : Type 0 where
+  pub tied : topic.IsFrontOf v
+  pub stands : Stands bytes v.content.batches
+  pub grammar : All IsInGrammar (records v.content.batches)
+  pub lawful : TopicLawful (topic_entries v.content.batches)
+
+-- The file is that of one of n topics. Where it is told what the files hold, this is the first damaged one of them, and
+-- this is the first entry that is damaged there.
+pub record IsFirstDamagedTopic (n : ℕ) (tells : Type 0) (files : Files) (file : FileId) (entry : ℕ) : Type 0 where
+  pub part : ℕ
+  pub from_one : 1 ≤ part
+  pub within : part ≤ n
+  pub file_is : file ≡ ledger_file part
+  pub damaged : tells → IsDamagedTopic (files (ledger_file part)) entry
+  pub before : tells → (p : ℕ) → 1 ≤ p → p < part → IsTopicLedger (files (ledger_file p))
+
+-- What each file before stands for, the same file after does.
+abbrev pub KeepsLists : Files → Files → Type 0
+KeepsLists before after = (file : FileId) → KeepsList (before file) (after file)
 
 -- It is the file of a part of these.
 abbrev pub IsPartFile : ℕ → FileId → Type 0
