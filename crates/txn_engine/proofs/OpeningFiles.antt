@@ -8,7 +8,7 @@ use Rattle.txn_base.specs.Content.{LedgerContent, Standing, settled, in_flight, 
 use Rattle.txn_base.specs.Disk.{Files, Elsewhere, Since, Changes, CountsFaults}
 use Rattle.txn_base.specs.Frames.{Batch, Stands}
 use Rattle.txn_base.specs.Outside.{Rose}
-use Rattle.txn_base.proofs.Moments.{goes_on, started, weaker}
+use Rattle.txn_base.proofs.Moments.{goes_on, weaker}
 use Rattle.txn_base.proofs.Unique.{stands_one}
 use Rattle.txn_ledger.specs.Found.{KeepsList}
 use Rattle.txn_ledger.specs.Ledger.{IsFile, StandsIn}

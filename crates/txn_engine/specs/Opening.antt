@@ -34,7 +34,8 @@ pub record IsFirstBadIn (n : ℕ) (batches : List Batch) (place : ℕ) : Type 0 
   pub lawful : CoordLawful n (coord_skeletons (take place (coord_entries batches)))
   pub grammar : All (λ r. IsCoordRecord r (coord_entry_of r)) (take place (records batches))
 
--- The frame of this number is outside its grammar; or the bytes stand for a list, of which this record is the first bad one.
+-- Behind this many records there is an open gate and no frame; or the bytes stand for a list, of which the record at this
+-- place is the first bad one.
 abbrev pub IsDamagedLog : ℕ → List ℕ → ℕ → Type 0
 IsDamagedLog n bytes entry = IsDamagedAt bytes entry ⊎ ((batches : List Batch) × Stands bytes batches × (entry < length (records batches)) × IsFirstBadIn n batches entry)
 

@@ -28,7 +28,8 @@ mod unopened;
 /// Why the parts of a disk couldn't be opened.
 #[derive(Debug, Drop)]
 pub enum EngineError {
-    /// A frame or a record of this file is outside its grammar, or its list isn't lawful by itself.
+    /// A frame or a record of this file is outside its grammar, or its list isn't lawful by itself. A frame is told before
+    /// any record.
     Damaged { file: FileId, entry: u64 },
     /// The disk failed.
     Fault,
