@@ -1,12 +1,12 @@
 -- The entries of a coordinator beside those of its log.
-use Rattle.std.proofs.Common.{◌≡◌, ℕ, ◌≤◌, arith, ⊎_elim, List, [], ◌∷◌, ◌++◌, length, map, take, refl, sym, ap, ◌∙◌}
+use Rattle.std.proofs.Common.{◌≡◌, ℕ, ◌≤◌, arith, ⊎_elim, List, [], ◌∷◌, ◌++◌, length, map, take, All, refl, sym, ap, ◌∙◌, subst}
 use Rattle.std.proofs.lemmas.List.{take_all, take-append-le, length-map, map-append}
 use Rattle.txn_base.specs.declared.entry.CoordEntry.{CoordEntry}
 use Rattle.txn_base.specs.Content.{LedgerContent, Standing, settled, in_flight, looked_at, landed, with_flight}
 use Rattle.txn_base.specs.Frames.{Batch, records}
-use Rattle.txn_base.specs.Records.{IsCoordEntry}
+use Rattle.txn_base.specs.Records.{IsCoordEntry, IsCoordRecord}
 use Rattle.txn_base.specs.Decoded.{coord_entry_of, coord_entries}
-use Rattle.txn_coordinator.specs.Mending.{IsSettledFrom}
+use Rattle.txn_coordinator.specs.Mending.{IsSettledFrom, AreReplayed}
 use Rattle.txn_coordinator.specs.View.{coord_batch}
 use Rattle.txn_coordinator.proofs.Applied.{records-push, coord_entries-push}
 
@@ -35,3 +35,19 @@ front_settled s t front at is within how was =
     (λ kept_one. sym (ap (λ (c : LedgerContent). take (length front) (coord_entries c.batches)) kept_one ∙ kept_front s.batches s.standing (length front) within))
     (λ dropped_one. sym (ap (λ (c : LedgerContent). take (length front) (coord_entries c.batches)) dropped_one))
     how ∙ ap (λ n. take n (coord_entries t.batches)) (sym is)
+
+kept_records : (batches : List Batch) (standing : Standing) (n : ℕ) → n ≤ length (records batches) → take n (records (with_flight batches standing)) ≡ take n (records batches)
+kept_records batches settled n le = refl
+kept_records batches looked_at n le = refl
+kept_records batches (in_flight batch) n le = ap (take n) (records-push batches batch) ∙ take-append-le n (records batches) batch le
+
+pub replayed_settled : (named : ℕ) (s t : LedgerContent) (front : List CoordEntry) → length front ≤ length (records s.batches) → IsSettledFrom s t → AreReplayed named s front → AreReplayed named t front
+replayed_settled named s t front within how was = record {
+  entries = front_settled s t front (length front) refl within how was.entries;
+  grammar = subst (All (λ r. IsCoordRecord r (coord_entry_of r)))
+      (⊎_elim
+      (λ kept_one. sym (ap (λ (c : LedgerContent). take (length front) (records c.batches)) kept_one ∙ kept_records s.batches s.standing (length front) within))
+      (λ dropped_one. sym (ap (λ (c : LedgerContent). take (length front) (records c.batches)) dropped_one))
+      how) was.grammar;
+  lawful = was.lawful;
+}

@@ -1,20 +1,24 @@
 -- The records that a replay reads, one more.
-use Rattle.std.proofs.Common.{◌≡◌, ℕ, ◌+◌, ◌<◌, ⊎_elim, arith, Bool, true, false, List, [], ◌∷◌, ◌++◌, length, length-append, get_or, take, sym, ap, ◌∙◌, subst}
+use Rattle.std.proofs.Common.{◌≡◌, ℕ, ◌+◌, ◌-◌, ◌<◌, ◌≤◌, nat_le, ⊎_elim, arith, Bool, true, false, ◌&&◌, not, List, [], ◌∷◌, ◌++◌, length, length-append, get_or, take, All, refl, sym, ap, ◌∙◌, subst, true≢false}
 use Rattle.std.proofs.lemmas.Bool.{cases_lt}
-use Rattle.std.proofs.lemmas.List.{append_assoc, take_more, get_or_append_left, length-map}
+use Rattle.std.proofs.lemmas.Bool.Decides.{nat_tests}
+use Rattle.std.proofs.lemmas.List.Elements.{All-push}
+use Rattle.std.proofs.lemmas.List.{append_assoc, take_more, get_or_append_left, get_or-append-add, length-map}
 use Rattle.std.proofs.Math.ListN.{get_or-map}
 use Rattle.std.proofs.Math.Seq.{get_or-append_seam}
+use Rattle.txn_base.specs.declared.core_entry.CoreEntry.{CoreEntry}
+use Rattle.txn_base.specs.declared.core_entry.CoreEntry.TheVariants as core
 use Rattle.txn_base.specs.declared.entry.CoordEntry.{CoordEntry}
 use Rattle.txn_base.specs.Content.{LedgerContent}
 use Rattle.txn_base.specs.Frames.{Record, records}
 use Rattle.txn_base.specs.Records.{IsCoordEntry, IsCoordRecord}
 use Rattle.txn_base.specs.Decoded.{coord_entry_of, coord_entries}
 use Rattle.txn_model.specs.Skeletons.{coord_skeleton, coord_skeletons}
-use Rattle.txn_model.specs.Coord.{coord_allows, CoordLawful}
-use Rattle.txn_coordinator.specs.Mending.{record_at, AreRecordsFrom, IsBadRecord}
+use Rattle.txn_model.specs.Coord.{coord_allows, CoordLawful, status_of, in_parts, is_open}
+use Rattle.txn_coordinator.specs.Mending.{record_at, AreRecordsFrom, AreRecordsTo, AreInGrammar, AreReplayed, IsBadRecord}
 use Rattle.txn_coordinator.specs.Table.{AreEntries}
 use Rattle.txn_coordinator.proofs.Records.{coord_back}
-use Rattle.txn_coordinator.proofs.Rows.{entries_more}
+use Rattle.txn_coordinator.proofs.Rows.{lawful_more, entries_more}
 
 -- the entry that is read off a record
 decoded : (bytes : Record) (e : CoordEntry) → IsCoordRecord bytes e → coord_entry_of bytes ≡ e
@@ -43,17 +47,83 @@ tied_next content front xs e place lt is so_far =
     ∙ ap (λ (f : CoordEntry). take place (coord_entries content.batches) ++ f ∷ []) (sym (entry_at content place e lt is))
     ∙ sym (take_more (coord_entries content.batches) place (coord_entry_of []) (omega (arith, lt, length-map (records content.batches) coord_entry_of)))
 
-pub bad_here : (content : LedgerContent) (front xs : List CoordEntry) (e : CoordEntry) (place : ℕ) → place < length (records content.batches) → AreEntries (front ++ xs) → front ++ xs ≡ take place (coord_entries content.batches)
-    → IsCoordRecord (record_at content place) e → coord_allows 62 (coord_skeletons (front ++ xs)) (coord_skeleton e) ≡ false → IsBadRecord content place
-bad_here content front xs e place lt are so_far is refused = record {
-  within = lt;
-  before = subst (λ (l : List CoordEntry). CoordLawful 62 (coord_skeletons l)) so_far are.lawful;
-  bad = λ f at.
-      let same : f ≡ e = sym (decoded (record_at content place) f at) ∙ decoded (record_at content place) e is in
-      ap (λ g. coord_allows 62 (coord_skeletons (take place (coord_entries content.batches))) (coord_skeleton g)) same ∙ ap (λ (l : List CoordEntry). coord_allows 62 (coord_skeletons l) (coord_skeleton e)) (sym so_far) ∙ refused;
-}
+-- what was read behind a front, as a part of what there is now
+pub read_to : (content : LedgerContent) (front xs grown : List CoordEntry) (at end : ℕ) → at ≡ length front → length xs + at ≡ end → grown ≡ front ++ xs → AreRecordsFrom content at xs → AreRecordsTo content at end grown
+read_to content front xs grown at end at_is count same are = λ k e from to.
+    let there : at + (k - at) ≡ k = omega (arith, from) in
+    let lt : k - at < length xs = omega (arith, from, to, count) in
+    let entry : get_or grown (at + (k - at)) e ≡ get_or xs (k - at) e =
+    ap (λ (l : List CoordEntry). get_or l (at + (k - at)) e) same ∙ ap (λ j. get_or (front ++ xs) (j + (k - at)) e) at_is ∙ get_or-append-add front xs (k - at) e in
+    subst (λ j. IsCoordRecord (record_at content j) (get_or grown j e)) there (subst (λ (f : CoordEntry). IsCoordRecord (record_at content (at + (k - at))) f) (sym entry) (are (k - at) e lt))
+
+-- ---- With n named parts.
+
+le_more : (p n : ℕ) → n ≤ 62 → nat_le p n ≡ true → nat_le p 62 ≡ true
+le_more p n few h = grind (arith, nat_tests, few, h)
+
+part_few : (a b c d e : Bool) → (c ≡ true → d ≡ true) → (a && b && c && e) ≡ true → (a && b && d && e) ≡ true
+part_few true true true true true means h = refl
+part_few true true true true false means h = h
+part_few true true true false e means h = absurd (true≢false (sym (means refl)))
+part_few true true false d e means h = absurd (true≢false (sym h))
+part_few true false c d e means h = h
+part_few false b c d e means h = h
+
+-- what is allowed with fewer parts is with more
+pub allowed_few : (n : ℕ) (c : List CoreEntry) (e : CoreEntry) → n ≤ 62 → coord_allows n c e ≡ true → coord_allows 62 c e ≡ true
+allowed_few n c (core.New x) few h = h
+allowed_few n c (core.AddPart x p) few h = part_few (is_open (status_of c x)) (nat_le 1 p) (nat_le p n) (nat_le p 62) (not (in_parts c x p)) (le_more p n few) h
+allowed_few n c (core.Committing x) few h = h
+allowed_few n c (core.Aborting x) few h = h
+allowed_few n c (core.Committed x) few h = h
+allowed_few n c (core.Aborted x) few h = h
+allowed_few n c core.Plain few h = absurd (true≢false (sym h))
+allowed_few n c (core.Inside x) few h = absurd (true≢false (sym h))
+allowed_few n c (core.Marker x d) few h = absurd (true≢false (sym h))
+
+pub lawful_next : (n : ℕ) (front xs : List CoordEntry) (e : CoordEntry) → CoordLawful n (coord_skeletons (front ++ xs)) → coord_allows n (coord_skeletons (front ++ xs)) (coord_skeleton e) ≡ true → CoordLawful n (coord_skeletons (front ++ (xs ++ e ∷ [])))
+lawful_next n front xs e lawful h = subst (λ (l : List CoordEntry). CoordLawful n (coord_skeletons l)) (append_assoc front xs (e ∷ [])) (lawful_more n (front ++ xs) e lawful h)
+
+module _ (n : ℕ) (content : LedgerContent) (front xs : List CoordEntry) (place : ℕ) (lt : place < length (records content.batches)) (count : length (front ++ xs) ≡ place) (are : AreReplayed n content (front ++ xs)) where
+  so_far : front ++ xs ≡ take place (coord_entries content.batches)
+  so_far = are.entries ∙ ap (λ k. take k (coord_entries content.batches)) count
+
+  grammar_before : AreInGrammar content place
+  grammar_before = subst (AreInGrammar content) count are.grammar
+
+  lawful_before : CoordLawful n (coord_skeletons (take place (coord_entries content.batches)))
+  lawful_before = subst (λ (l : List CoordEntry). CoordLawful n (coord_skeletons l)) so_far are.lawful
+
+  module _ (e : CoordEntry) (is : IsCoordRecord (record_at content place) e) where
+    grammar_next : AreInGrammar content (place + 1)
+    grammar_next =
+        subst (All (λ r. IsCoordRecord r (coord_entry_of r))) (sym (take_more (records content.batches) place [] lt))
+        (All-push (λ r. IsCoordRecord r (coord_entry_of r)) (take place (records content.batches)) (record_at content place) grammar_before
+        (subst (IsCoordRecord (record_at content place)) (sym (decoded (record_at content place) e is)) is))
+
+    pub replayed_next : coord_allows n (coord_skeletons (front ++ xs)) (coord_skeleton e) ≡ true → AreReplayed n content (front ++ (xs ++ e ∷ []))
+    replayed_next h =
+        let long : length (front ++ (xs ++ e ∷ [])) ≡ place + 1 = omega (arith, count, length-append front xs, length-append front (xs ++ e ∷ []), length-append xs (e ∷ [])) in
+        record {
+          entries = tied_next content front xs e place lt is so_far ∙ ap (λ k. take k (coord_entries content.batches)) (sym long);
+          grammar = subst (AreInGrammar content) (sym long) grammar_next;
+          lawful = lawful_next n front xs e are.lawful h;
+        }
+
+    pub bad_here : coord_allows n (coord_skeletons (front ++ xs)) (coord_skeleton e) ≡ false → IsBadRecord n content place
+    bad_here refused = record {
+      within = lt;
+      grammar = grammar_before;
+      before = lawful_before;
+      bad = λ f at.
+          let same : f ≡ e = sym (decoded (record_at content place) f at) ∙ decoded (record_at content place) e is in
+          ap (λ g. coord_allows n (coord_skeletons (take place (coord_entries content.batches))) (coord_skeleton g)) same ∙ ap (λ (l : List CoordEntry). coord_allows n (coord_skeletons l) (coord_skeleton e)) (sym so_far) ∙ refused;
+    }
+
+  pub bad_outside : ((e : CoordEntry) → IsCoordRecord (record_at content place) e → ⊥) → IsBadRecord n content place
+  bad_outside none = record { within = lt; grammar = grammar_before; before = lawful_before; bad = λ e at. absurd (none e at) }
 
 -- what a test of an entry after those that were read tells
-pub allows_read : (front xs read : List CoordEntry) (e : CoordEntry) (result b : Bool) → read ≡ xs → result ≡ coord_allows 62 (coord_skeletons (front ++ read)) (coord_skeleton e) → result ≡ b
-    → coord_allows 62 (coord_skeletons (front ++ xs)) (coord_skeleton e) ≡ b
-allows_read front xs read e result b same tells is = ap (λ (l : List CoordEntry). coord_allows 62 (coord_skeletons (front ++ l)) (coord_skeleton e)) (sym same) ∙ sym tells ∙ is
+pub allows_read : (n : ℕ) (front xs read : List CoordEntry) (e : CoordEntry) (result b : Bool) → read ≡ xs → result ≡ coord_allows n (coord_skeletons (front ++ read)) (coord_skeleton e) → result ≡ b
+    → coord_allows n (coord_skeletons (front ++ xs)) (coord_skeleton e) ≡ b
+allows_read n front xs read e result b same tells is = ap (λ (l : List CoordEntry). coord_allows n (coord_skeletons (front ++ l)) (coord_skeleton e)) (sym same) ∙ sym tells ∙ is

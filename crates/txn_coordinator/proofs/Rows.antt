@@ -17,7 +17,7 @@ use Rattle.txn_base.specs.declared.core_entry.CoreEntry.{CoreEntry}
 use Rattle.txn_base.specs.Records.{IsCoordEntry}
 use Rattle.txn_model.specs.Words.{last_of, all_follow}
 use Rattle.txn_model.specs.Skeletons.{same_txn, coord_skeleton, coord_skeletons}
-use Rattle.txn_model.specs.Coord.{has_new, is_begin, count_new, says_status, status_of, is_open, is_deciding, coord_allows}
+use Rattle.txn_model.specs.Coord.{has_new, is_begin, count_new, says_status, status_of, is_open, is_deciding, coord_allows, CoordLawful}
 use Rattle.txn_model.specs.Deadlines.{txn, is_closed}
 use Rattle.txn_model.proofs.Prefixes.{all_follow-append}
 use Rattle.txn_coordinator.specs.declared.row.Row.{Row}
@@ -182,17 +182,18 @@ turns_unclosed c (coord.Aborting x) row may h is = open_not_closed row.status (s
 turns_unclosed c (coord.Aborted x) row may h is = deciding_not_closed Abort row.status (subst (λ o. is_deciding Abort o ≡ true) (status_of_row c x row is) h)
 
 -- the entries after one more
-pub entries_more : (c : List CoordEntry) (e : CoordEntry) → AreEntries c → IsCoordEntry e → coord_allows 62 (coord_skeletons c) (coord_skeleton e) ≡ true → AreEntries (c ++ e ∷ [])
-entries_more c e are fits h = record {
-  entries = All-push IsCoordEntry c e are.entries fits;
-  lawful = ap (all_follow (coord_allows 62) []) (skeletons-push c e) ∙ all_follow-append (coord_allows 62) [] (coord_skeletons c) (coord_skeleton e ∷ [])
-      ∙ both (all_follow (coord_allows 62) [] (coord_skeletons c)) (coord_allows 62 (coord_skeletons c) (coord_skeleton e)) are.lawful h;
-}
+pub lawful_more : (n : ℕ) (c : List CoordEntry) (e : CoordEntry) → CoordLawful n (coord_skeletons c) → coord_allows n (coord_skeletons c) (coord_skeleton e) ≡ true → CoordLawful n (coord_skeletons (c ++ e ∷ []))
+lawful_more n c e lawful h =
+    ap (all_follow (coord_allows n) []) (skeletons-push c e) ∙ all_follow-append (coord_allows n) [] (coord_skeletons c) (coord_skeleton e ∷ [])
+    ∙ both (all_follow (coord_allows n) [] (coord_skeletons c)) (coord_allows n (coord_skeletons c) (coord_skeleton e)) lawful h
   where
     both : (a b : Bool) → a ≡ true → b ≡ true → (a && (b && true)) ≡ true
     both true true p q = refl
     both true false p q = absurd (true≢false (sym q))
     both false b p q = absurd (true≢false (sym p))
+
+pub entries_more : (c : List CoordEntry) (e : CoordEntry) → AreEntries c → IsCoordEntry e → coord_allows 62 (coord_skeletons c) (coord_skeleton e) ≡ true → AreEntries (c ++ e ∷ [])
+entries_more c e are fits h = record { entries = All-push IsCoordEntry c e are.entries fits; lawful = lawful_more 62 c e are.lawful h }
 
 -- what a table is but for the low watermark
 pub record Moved (rows : List Row) (low : ℕ) (c : List CoordEntry) : Type 0 where

@@ -1,10 +1,10 @@
 -- What a step of a coordinator's replay does.
-use Rattle.std.specs.Prelude.{◌≡◌, ◌⊎◌, ◌↔◌, ℕ, ◌+◌, ◌<◌, ◌≤◌, min, ◌||◌, false, if◌then◌else◌, IsTrue, List, [], length, take, slice_index_or}
+use Rattle.std.specs.Prelude.{◌≡◌, ◌⊎◌, ◌↔◌, ℕ, ◌+◌, ◌<◌, ◌≤◌, min, ◌||◌, false, if◌then◌else◌, IsTrue, List, [], length, take, All, slice_index_or}
 use Rattle.txn_base.specs.declared.entry.CoordEntry.{CoordEntry}
 use Rattle.txn_base.specs.Content.{LedgerContent, kept, dropped}
 use Rattle.txn_base.specs.Frames.{Record, records}
 use Rattle.txn_base.specs.Records.{IsCoordRecord}
-use Rattle.txn_base.specs.Decoded.{coord_entries}
+use Rattle.txn_base.specs.Decoded.{coord_entry_of, coord_entries}
 use Rattle.txn_model.specs.Skeletons.{coord_skeleton, coord_skeletons}
 use Rattle.txn_model.specs.Coord.{coord_allows, CoordLawful}
 use Rattle.txn_model.specs.Deadlines.{low_of}
@@ -22,11 +22,23 @@ AreRecordsFrom content at entries = (k : ℕ) (e : CoordEntry) → k < length en
 abbrev pub AreRecordsTo : LedgerContent → ℕ → ℕ → List CoordEntry → Type 0
 AreRecordsTo content from to entries = (k : ℕ) (e : CoordEntry) → from ≤ k → k < to → IsCoordRecord (record_at content k) (slice_index_or entries k e)
 
--- The record at this place is the first that is outside its grammar, or isn't allowed after those before it.
-pub record IsBadRecord (content : LedgerContent) (place : ℕ) : Type 0 where
+-- Up to this place, the records of a ledger are in the grammar.
+abbrev pub AreInGrammar : LedgerContent → ℕ → Type 0
+AreInGrammar content place = All (λ r. IsCoordRecord r (coord_entry_of r)) (take place (records content.batches))
+
+-- Of n named parts, these entries are the first of a ledger's, whose records are in the grammar, and they are lawful.
+pub record AreReplayed (n : ℕ) (content : LedgerContent) (front : List CoordEntry) : Type 0 where
+  pub entries : front ≡ take (length front) (coord_entries content.batches)
+  pub grammar : AreInGrammar content (length front)
+  pub lawful : CoordLawful n (coord_skeletons front)
+
+-- Of n named parts, the record at this place is the first that is outside its grammar, or isn't allowed after those before
+-- it.
+pub record IsBadRecord (n : ℕ) (content : LedgerContent) (place : ℕ) : Type 0 where
   pub within : place < length (records content.batches)
-  pub before : CoordLawful 62 (coord_skeletons (take place (coord_entries content.batches)))
-  pub bad : (e : CoordEntry) → IsCoordRecord (record_at content place) e → coord_allows 62 (coord_skeletons (take place (coord_entries content.batches))) (coord_skeleton e) ≡ false
+  pub grammar : AreInGrammar content place
+  pub before : CoordLawful n (coord_skeletons (take place (coord_entries content.batches)))
+  pub bad : (e : CoordEntry) → IsCoordRecord (record_at content place) e → coord_allows n (coord_skeletons (take place (coord_entries content.batches))) (coord_skeleton e) ≡ false
 
 -- What was in flight stands there now, or was dropped. Where nothing was, the two are the same.
 abbrev pub IsSettledFrom : LedgerContent → LedgerContent → Type 0

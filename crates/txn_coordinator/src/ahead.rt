@@ -1,5 +1,5 @@
 //! Whether an entry is allowed after those of a table and some that were not added yet.
-ghost use Rattle.std.specs.Prelude.{◌≡◌, ◌<◌, ◌^◌, ◌++◌, if◌then◌else◌};
+ghost use Rattle.std.specs.Prelude.{◌≡◌, ◌<◌, ◌≤◌, ◌^◌, ◌++◌, if◌then◌else◌};
 ghost use Rattle.txn_model.specs.Skeletons.{coord_skeleton, coord_skeletons};
 ghost use Rattle.txn_model.specs.Coord.{coord_allows, count_new, is_open, is_deciding};
 ghost use Rattle.txn_coordinator.specs.Table.{IsRowOf, AreEntries, is_new_entry, status_in, has_bit};
@@ -35,10 +35,11 @@ fn count_ahead(ahead: &[CoordEntry]) -> usize
     ahead.iter().filter(|entry| is_new(entry)).count()
 }
 
-/// The entry may follow those of the table and these.
-pub fn allows(table: &Table, ahead: &[CoordEntry], entry: &CoordEntry) -> bool
-    requires { AreEntries (table.now.front ++ ahead.now) }
-    ensures { result ≡ coord_allows 62 (coord_skeletons (table.now.front ++ ahead.now)) (coord_skeleton entry.now) }
+/// The entry may follow those of the table and these, where so many parts are named.
+pub fn allows(table: &Table, ahead: &[CoordEntry], named: u32, entry: &CoordEntry) -> bool
+    requires named { named ≤ 62 }
+    requires entries { AreEntries (table.now.front ++ ahead.now) }
+    ensures { result ≡ coord_allows named (coord_skeletons (table.now.front ++ ahead.now)) (coord_skeleton entry.now) }
 {
     match entry {
         CoordEntry::New { txn, .. } => {
@@ -47,7 +48,7 @@ pub fn allows(table: &Table, ahead: &[CoordEntry], entry: &CoordEntry) -> bool
         }
         CoordEntry::AddPart { txn, part } => {
             let row = row_ahead(table, ahead, *txn);
-            is_open(row) && 1 <= *part && *part <= 62 && !has_bit(row, *part)
+            is_open(row) && 1 <= *part && *part <= named && !has_bit(row, *part)
         }
         CoordEntry::Committing { txn } => is_open(row_ahead(table, ahead, *txn)),
         CoordEntry::Aborting { txn } => is_open(row_ahead(table, ahead, *txn)),

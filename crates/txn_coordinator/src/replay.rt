@@ -6,8 +6,10 @@ ghost use Rattle.txn_base.specs.Decoded.{coord_entries};
 ghost use Rattle.txn_base.specs.Disk.{Since, Same, CountsFaults};
 ghost use Rattle.txn_base.specs.Frames.{records};
 ghost use Rattle.txn_base.specs.Records.{IsCoordEntry, IsCoordRecord};
-ghost use Rattle.txn_coordinator.specs.Mending.{record_at, AreRecordsFrom, AreRecordsTo, IsBadRecord};
+ghost use Rattle.txn_coordinator.specs.Mending.{record_at, AreRecordsFrom, AreRecordsTo, AreReplayed, IsBadRecord};
 ghost use Rattle.txn_coordinator.specs.Table.{AreEntries};
+ghost use Rattle.txn_model.specs.Coord.{CoordLawful};
+ghost use Rattle.txn_model.specs.Skeletons.{coord_skeletons};
 
 use crate::ahead::allows;
 use crate::table::Table;
@@ -47,11 +49,13 @@ fn read_entry<D: Disk, L: ledger::Ledger, R: RecordLog>(
     }
 }
 
-/// Reads the records from the table's length to `end`, and tests each against those before it.
+/// Reads the records from the table's length to `end`, and tests each against those before it, where so many parts are
+/// named.
 pub fn stage<D: Disk, L: ledger::Ledger, R: RecordLog>(
     alloc: Global,
     log: &R,
     table: &Table,
+    named: u32,
     disk: &mut D,
     at: u64,
     end: u64,
@@ -60,6 +64,7 @@ pub fn stage<D: Disk, L: ledger::Ledger, R: RecordLog>(
     requires at { at ≡ length table.now.front }
     requires order { at ≤ end }
     requires within { end ≤ length (records (R.content log.now).batches) }
+    requires named { named ≤ 62 }
     requires kept { AreEntries table.now.front }
     requires settled { (R.content log.now).standing ≡ settled }
     requires backed { Backed R.stands (D.image disk.old) (R.content log.now) }
@@ -67,8 +72,10 @@ pub fn stage<D: Disk, L: ledger::Ledger, R: RecordLog>(
     ensures count { IfOk result (λ staged. length staged.items + at ≡ end) }
     ensures read { D.tells → IfOk result (λ staged. AreRecordsFrom (R.content log.now) at staged.items) }
     ensures tied { D.tells → table.now.front ≡ take at (coord_entries (R.content log.now).batches) → IfOk result (λ staged. table.now.front ++ staged.items ≡ take end (coord_entries (R.content log.now).batches)) }
+    ensures lawful { CoordLawful named (coord_skeletons table.now.front) → IfOk result (λ staged. CoordLawful named (coord_skeletons (table.now.front ++ staged.items))) }
+    ensures replayed { D.tells → AreReplayed named (R.content log.now) table.now.front → IfOk result (λ staged. AreReplayed named (R.content log.now) (table.now.front ++ staged.items)) }
     ensures damaged { (place : ℕ) → result ≡ Err (MendError.Damaged place) → (at ≤ place) × (place < end) }
-    ensures bad { D.tells → table.now.front ≡ take at (coord_entries (R.content log.now).batches) → (place : ℕ) → result ≡ Err (MendError.Damaged place) → IsBadRecord (R.content log.now) place }
+    ensures bad { D.tells → AreReplayed named (R.content log.now) table.now.front → (place : ℕ) → result ≡ Err (MendError.Damaged place) → IsBadRecord named (R.content log.now) place }
     ensures counted { OnOk result (steps.new + at ≡ steps.old + end) }
     ensures few { steps.new + at ≤ steps.old + end }
     ensures seen { D.seen disk.new ≡ D.seen disk.old }
@@ -80,7 +87,7 @@ pub fn stage<D: Disk, L: ledger::Ledger, R: RecordLog>(
     };
     for place in at..end {
         let entry = read_entry(alloc, log, disk, place, steps)?;
-        if !allows(table, staged.as_slice(), &entry) {
+        if !allows(table, staged.as_slice(), named, &entry) {
             return Err(MendError::Damaged { place });
         }
         staged.push_reserved(entry);
@@ -105,6 +112,7 @@ pub fn replay<D: Disk, L: ledger::Ledger, R: RecordLog>(
     alloc: Global,
     log: &R,
     table: &mut Table,
+    named: u32,
     disk: &mut D,
     at: u64,
     end: u64,
@@ -113,6 +121,7 @@ pub fn replay<D: Disk, L: ledger::Ledger, R: RecordLog>(
     requires at { at ≡ length table.old.front }
     requires order { at ≤ end }
     requires within { end ≤ length (records (R.content log.now).batches) }
+    requires named { named ≤ 62 }
     requires settled { (R.content log.now).standing ≡ settled }
     requires backed { Backed R.stands (D.image disk.old) (R.content log.now) }
     ensures grown { OnOk result (length table.new.front ≡ end) }
@@ -120,8 +129,10 @@ pub fn replay<D: Disk, L: ledger::Ledger, R: RecordLog>(
     ensures same { OnErr result (table.new.front ≡ table.old.front) }
     ensures read { D.tells → OnOk result (AreRecordsTo (R.content log.now) at end table.new.front) }
     ensures tied { D.tells → table.old.front ≡ take at (coord_entries (R.content log.now).batches) → OnOk result (table.new.front ≡ take end (coord_entries (R.content log.now).batches)) }
+    ensures lawful { CoordLawful named (coord_skeletons table.old.front) → CoordLawful named (coord_skeletons table.new.front) }
+    ensures replayed { D.tells → AreReplayed named (R.content log.now) table.old.front → AreReplayed named (R.content log.now) table.new.front }
     ensures damaged { (place : ℕ) → result ≡ Err (MendError.Damaged place) → (at ≤ place) × (place < end) }
-    ensures bad { D.tells → table.old.front ≡ take at (coord_entries (R.content log.now).batches) → (place : ℕ) → result ≡ Err (MendError.Damaged place) → IsBadRecord (R.content log.now) place }
+    ensures bad { D.tells → AreReplayed named (R.content log.now) table.old.front → (place : ℕ) → result ≡ Err (MendError.Damaged place) → IsBadRecord named (R.content log.now) place }
     ensures counted { OnOk result (steps.new + at ≡ steps.old + end) }
     ensures few { steps.new + at ≤ steps.old + end }
     ensures seen { D.seen disk.new ≡ D.seen disk.old }
@@ -129,7 +140,7 @@ pub fn replay<D: Disk, L: ledger::Ledger, R: RecordLog>(
     ensures cause { CountsFaults (R.content log.now).key.part (D.faults disk.old) (D.faults disk.new) (D.part_faults disk.old) (D.part_faults disk.new) (result ≡ Err MendError.Fault) }
 {
     let _count = table.count();
-    let staged = stage(alloc, log, table, disk, at, end, steps)?;
+    let staged = stage(alloc, log, table, named, disk, at, end, steps)?;
     if table.reserve(staged.len()).is_err() {
         return Err(MendError::NoMemory);
     }

@@ -72,7 +72,7 @@ fn commit<D: Disk, R: RecordLog, L: ledger::Ledger>(
     requires standing { coordinator.old.content.standing ≡ looked_at → ⊥ }
     requires backed { Backed R.stands (D.image disk.old) coordinator.old.content }
 {
-    coordinator.mend_step(disk, steps).ok()?;
+    coordinator.mend_step(disk, 3, steps).ok()?;
     let PartState::Whole = coordinator.state() else {
         return None;
     };

@@ -26,3 +26,7 @@ pub mod Reserved
 pub mod Closing
 pub mod Driving
 pub mod Ended
+pub mod OpeningFiles
+pub mod OpeningTopic
+pub mod OpeningLog
+pub mod OpeningAll

@@ -7,3 +7,4 @@ pub mod Refusals
 pub mod Publishing
 pub mod Opening
 pub mod Ending
+pub mod Unopened

@@ -8,6 +8,11 @@ use Rattle.txn_base.specs.Frames.{Batch, records, Stands, IsDamagedAt}
 use Rattle.txn_base.specs.Records.{IsCoordRecord}
 use Rattle.txn_buffer.specs.Mending.{IsFirstBad}
 use Rattle.txn_buffer.specs.Record.{IsInGrammar}
+use Rattle.txn_buffer.specs.View as topic
+use Rattle.txn_buffer.specs.View.{TopicView}
+use Rattle.txn_coordinator.specs.View as coordinator
+use Rattle.txn_coordinator.specs.View.{CoordView}
+use Rattle.txn_ledger.specs.Found.{KeepsList}
 use Rattle.txn_model.specs.declared.world.World.{World}
 use Rattle.txn_model.specs.Coord.{CoordLawful, coord_allows}
 use Rattle.txn_model.specs.Skeletons.{coord_skeleton, coord_skeletons}
@@ -29,7 +34,8 @@ pub record IsFirstBadIn (n : ℕ) (batches : List Batch) (place : ℕ) : Type 0 
   pub lawful : CoordLawful n (coord_skeletons (take place (coord_entries batches)))
   pub grammar : All (λ r. IsCoordRecord r (coord_entry_of r)) (take place (records batches))
 
--- The frame of this number is outside its grammar; or the bytes stand for a list, of which this record is the first bad one.
+-- Behind this many records there is an open gate and no frame; or the bytes stand for a list, of which the record at this
+-- place is the first bad one.
 abbrev pub IsDamagedLog : ℕ → List ℕ → ℕ → Type 0
 IsDamagedLog n bytes entry = IsDamagedAt bytes entry ⊎ ((batches : List Batch) × Stands bytes batches × (entry < length (records batches)) × IsFirstBadIn n batches entry)
 
@@ -56,6 +62,33 @@ pub record IsFirstDamage (n : ℕ) (files : Files) (file : FileId) (entry : ℕ)
   pub file_is : file ≡ ledger_file part
   pub damaged : IsDamagedPart n part (files (ledger_file part)) entry
   pub before : (p : ℕ) → p < part → IsPart n p (files (ledger_file p))
+
+-- The coordinator of n named parts is what these bytes stand for, and they are as they have to be; so is the topic.
+pub record IsCoordinatorOf (n : ℕ) (v : CoordView) (bytes : List ℕ) : Type 0 where
+  pub tied : coordinator.IsFrontOf v
+  pub stands : Stands bytes v.content.batches
+  pub grammar : All (λ r. IsCoordRecord r (coord_entry_of r)) (records v.content.batches)
+  pub lawful : CoordLawful n (coord_skeletons (coord_entries v.content.batches))
+
+pub record IsTopicOf (v : TopicView) (bytes : List ℕ) : Type 0 where
+  pub tied : topic.IsFrontOf v
+  pub stands : Stands bytes v.content.batches
+  pub grammar : All IsInGrammar (records v.content.batches)
+  pub lawful : TopicLawful (topic_entries v.content.batches)
+
+-- The file is that of one of n topics. Where it is told what the files hold, this is the first damaged one of them, and
+-- this is the first entry that is damaged there.
+pub record IsFirstDamagedTopic (n : ℕ) (tells : Type 0) (files : Files) (file : FileId) (entry : ℕ) : Type 0 where
+  pub part : ℕ
+  pub from_one : 1 ≤ part
+  pub within : part ≤ n
+  pub file_is : file ≡ ledger_file part
+  pub damaged : tells → IsDamagedTopic (files (ledger_file part)) entry
+  pub before : tells → (p : ℕ) → 1 ≤ p → p < part → IsTopicLedger (files (ledger_file p))
+
+-- What each file before stands for, the same file after does.
+abbrev pub KeepsLists : Files → Files → Type 0
+KeepsLists before after = (file : FileId) → KeepsList (before file) (after file)
 
 -- It is the file of a part of these.
 abbrev pub IsPartFile : ℕ → FileId → Type 0

@@ -15,14 +15,21 @@ ghost use Rattle.txn_engine.specs.Told.{CountsWithin};
 ghost use Rattle.txn_engine.specs.View.{IsWhole, IsTied, IsBacked};
 
 use crate::engine::Engine;
+use crate::opening::log::open_coordinator;
+use crate::opening::topics::open_topics;
 use std::alloc::Global;
 use std::sync::ledger;
 use txn_base::{Disk, FileId, Limits, Steps, Text};
 
+mod log;
+mod topics;
+mod unopened;
+
 /// Why the parts of a disk couldn't be opened.
 #[derive(Debug, Drop)]
 pub enum EngineError {
-    /// A frame or a record of this file is outside its grammar, or its list isn't lawful by itself.
+    /// A frame or a record of this file is outside its grammar, or its list isn't lawful by itself. A frame is told before
+    /// any record.
     Damaged { file: FileId, entry: u64 },
     /// The disk failed.
     Fault,
@@ -57,7 +64,9 @@ impl Engine {
         ensures images { Since D.moment D.image D.left_since (KeepsWorld names.items) disk.old disk.new }
         ensures cause { CountsWithin (length names.items) (D.faults disk.old) (D.faults disk.new) (D.part_faults disk.old) (D.part_faults disk.new) (result ≡ Err EngineError.Fault) }
     {
-        let _ = (alloc, names, limits);
-        Err(EngineError::NoMemory)
+        let named = names.len() as u32;
+        let coordinator = open_coordinator(alloc, named, limits, disk, steps)?;
+        let topics = open_topics(alloc, named, limits, disk, steps)?;
+        Ok(Engine::over(alloc, names, coordinator, topics, limits))
     }
 }

@@ -3,8 +3,10 @@ ghost use Rattle.std.specs.Prelude.{◌≡◌, ◌≤◌, ◌<◌, ◌+◌, ℕ,
 ghost use Rattle.txn_base.specs.declared.file_id.FileId.{FileId};
 ghost use Rattle.txn_base.specs.Content.{settled, looked_at, Backed, Settles};
 ghost use Rattle.txn_base.specs.Disk.{Since, CountsFaults};
-ghost use Rattle.txn_coordinator.specs.Mending.{AreRecordsTo, IsBadRecord, IsSettledFrom, Mends, Stays};
+ghost use Rattle.txn_coordinator.specs.Mending.{AreRecordsTo, AreReplayed, IsBadRecord, IsSettledFrom, Mends, Stays};
+ghost use Rattle.txn_model.specs.Coord.{CoordLawful};
 ghost use Rattle.txn_model.specs.Deadlines.{low_of};
+ghost use Rattle.txn_model.specs.Skeletons.{coord_skeletons};
 ghost use Rattle.txn_coordinator.specs.View.{length_of, IsFrontOf};
 
 use crate::coordinator::Coordinator;
@@ -48,12 +50,15 @@ fn opening_low(before: u64, was_whole: bool, whole: bool, table: &Table) -> u64
 
 impl<R: RecordLog> Coordinator<R> {
     /// Settles the log, and adds the entries of its next records: `step` of them, or all that are left. Each is read once.
-    /// A step that is refused adds none of them. On a coordinator that is whole it does nothing.
+    /// An entry that adds a part above `named`, the number of parts that have a name, isn't allowed. A step that is refused
+    /// adds none. On a coordinator that is whole it does nothing.
     pub fn mend_step<D: Disk, L: ledger::Ledger>(
         &mut self,
         disk: &mut D,
+        named: u32,
         steps: &mut Steps<L>,
     ) -> Result<Progress, MendError>
+        requires named { named ≤ 62 }
         requires standing { (self.old).content.standing ≡ looked_at → ⊥ }
         requires backed { Backed R.stands (D.image disk.old) (self.old).content }
         ensures already { IsTrue (self.old).whole → IsOk result }
@@ -69,10 +74,12 @@ impl<R: RecordLog> Coordinator<R> {
         ensures found { D.tells → (self.new).content.standing ≡ settled → R.stands (self.old).content.key (D.seen disk.old) (self.new).content.batches }
         ensures read { D.tells → OnOk result (AreRecordsTo (self.new).content (length (self.old).front) (length (self.new).front) (self.new).front) }
         ensures damaged { (place : ℕ) → result ≡ Err (MendError.Damaged place) → (length (self.old).front ≤ place) × (place < length (self.old).front + (self.old).limits.step) }
-        ensures bad { D.tells → IsFrontOf self.old → (place : ℕ) → result ≡ Err (MendError.Damaged place) → IsBadRecord (self.new).content place }
+        ensures bad { D.tells → AreReplayed named (self.old).content (self.old).front → (place : ℕ) → result ≡ Err (MendError.Damaged place) → IsBadRecord named (self.new).content place }
         ensures counted { OnOk result (steps.new + length (self.old).front ≡ steps.old + length (self.new).front) }
         ensures few { steps.new ≤ steps.old + (self.old).limits.step }
         ensures tied { D.tells → IsFrontOf self.old → IsFrontOf self.new }
+        ensures replayed { D.tells → AreReplayed named (self.old).content (self.old).front → AreReplayed named (self.new).content (self.new).front }
+        ensures lawful { CoordLawful named (coord_skeletons (self.old).front) → CoordLawful named (coord_skeletons (self.new).front) }
         ensures backed { Backed R.stands (D.image disk.new) (self.new).content }
         ensures images { Since D.moment D.image D.left_since (Settles R.mine R.stands (self.old).content) disk.old disk.new }
         ensures others { (other : FileId) → (R.mine (self.old).content.key other → ⊥) → D.seen disk.new other ≡ D.seen disk.old other }
@@ -95,6 +102,7 @@ impl<R: RecordLog> Coordinator<R> {
             self.alloc,
             &self.log,
             &mut self.table,
+            named,
             disk,
             self.at,
             end,

@@ -42,7 +42,7 @@ fn reopened<D: Disk, L: ledger::Ledger>(
     ensures backed { IfSome result (λ c. Backed StandsIn (D.image disk.new) c.content) }
 {
     let mut coordinator = opened(alloc, disk, &with_window(1))?;
-    coordinator.mend_step(disk, steps).ok()?;
+    coordinator.mend_step(disk, 62, steps).ok()?;
     Some(coordinator)
 }
 
@@ -131,7 +131,7 @@ fn three_begun<D: Disk, L: ledger::Ledger>(
 {
     let mut steps = Steps::<L>::new(blank);
     let mut coordinator = opened(alloc, disk, &with_window(2))?;
-    coordinator.mend_step(disk, &mut steps).ok()?;
+    coordinator.mend_step(disk, 62, &mut steps).ok()?;
     let first = begin(&mut coordinator, disk);
     let second = begin(&mut coordinator, disk);
     let third = begin(&mut coordinator, disk);

@@ -1,5 +1,5 @@
 //! What a coordinator replays of small logs.
-ghost use Rattle.std.specs.Prelude.{◌≡◌, IfSome};
+ghost use Rattle.std.specs.Prelude.{◌≡◌, ◌≤◌, IfSome};
 ghost use Rattle.txn_base.specs.Content.{Backed, looked_at};
 ghost use Rattle.txn_ledger.specs.Ledger.{StandsIn};
 
@@ -55,26 +55,34 @@ type Stepped = (Result<Progress, MendError>, PartState, u64);
 fn step<D: Disk, R: RecordLog, L: ledger::Ledger>(
     coordinator: &mut Coordinator<R>,
     disk: &mut D,
+    named: u32,
     steps: &mut Steps<L>,
 ) -> Stepped
+    requires named { named ≤ 62 }
     requires standing { coordinator.old.content.standing ≡ looked_at → ⊥ }
     requires backed { Backed R.stands (D.image disk.old) coordinator.old.content }
     ensures standing { coordinator.new.content.standing ≡ looked_at → ⊥ }
     ensures backed { Backed R.stands (D.image disk.new) coordinator.new.content }
 {
-    let told = coordinator.mend_step(disk, steps);
+    let told = coordinator.mend_step(disk, named, steps);
     (told, coordinator.state(), coordinator.count())
 }
 
-/// Opens the log, and makes one step.
-fn first_step<L: ledger::Ledger>(alloc: Global, blank: Blank, disk: &mut MemDisk) -> Option<Stepped>
+/// Opens the log, and makes one step, where so many parts are named.
+fn first_step<L: ledger::Ledger>(
+    alloc: Global,
+    blank: Blank,
+    disk: &mut MemDisk,
+    named: u32,
+) -> Option<Stepped>
+    requires named { named ≤ 62 }
     requires name { blank.name ≡ L.name }
     requires parts { blank.parts ≡ L.parts }
     requires one { L.parts ≡ 1 }
 {
     let mut steps = Steps::<L>::new(blank);
     let mut coordinator = opened(alloc, disk)?;
-    Some(step(&mut coordinator, disk, &mut steps))
+    Some(step(&mut coordinator, disk, named, &mut steps))
 }
 
 // Logs, and the entry at which each stops being lawful.
@@ -126,7 +134,7 @@ const LOGS: [(&[Short], Option<u64>); 17] = [
 fn logs_stop_being_lawful(rt: HostRuntime) -> Result<(), AllocError> {
     for (entries, stop) in &LOGS {
         let mut disk = disk_of(rt.alloc(), entries, &[])?;
-        let told = first_step::<Brand>(rt.alloc(), Blank::new(1), &mut disk);
+        let told = first_step::<Brand>(rt.alloc(), Blank::new(1), &mut disk, 62);
         let total = entries.len() as u64;
         match stop {
             Some(place) => {
@@ -143,6 +151,23 @@ fn logs_stop_being_lawful(rt: HostRuntime) -> Result<(), AllocError> {
     Ok(())
 }
 
+#[test]
+fn part_without_a_name_is_damage(rt: HostRuntime) -> Result<(), AllocError> {
+    let entries = [(NEW, 0, 0), (ADD, 0, 1), (ADD, 0, 2), (NEW, 0, 0)];
+    let damaged = |place| Some(Err(MendError::Damaged { place }));
+    let mut disk = disk_of(rt.alloc(), &entries, &[])?;
+    let told = first_step::<Brand>(rt.alloc(), Blank::new(1), &mut disk, 1);
+    assert_eq!(rt; told.map(|t| t.0), damaged(2));
+    // With two names the second New of one number is the first bad record.
+    let mut disk = disk_of(rt.alloc(), &entries, &[])?;
+    let told = first_step::<Brand>(rt.alloc(), Blank::new(1), &mut disk, 2);
+    assert_eq!(rt; told.map(|t| t.0), damaged(3));
+    let mut disk = disk_of(rt.alloc(), &entries[..3], &[])?;
+    let told = first_step::<Brand>(rt.alloc(), Blank::new(1), &mut disk, 2);
+    assert_eq!(rt; told.map(|t| t.1), Some(PartState::Whole));
+    Ok(())
+}
+
 /// Opens the log, and replays it in one step.
 fn replayed<D: Disk, L: ledger::Ledger>(
     alloc: Global,
@@ -156,7 +181,7 @@ fn replayed<D: Disk, L: ledger::Ledger>(
 {
     let mut steps = Steps::<L>::new(blank);
     let mut coordinator = opened(alloc, disk)?;
-    coordinator.mend_step(disk, &mut steps).ok()?;
+    coordinator.mend_step(disk, 62, &mut steps).ok()?;
     Some(coordinator)
 }
 

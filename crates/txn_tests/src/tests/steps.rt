@@ -65,7 +65,7 @@ fn step_log<D: Disk, R: RecordLog, L: ledger::Ledger>(
     ensures standing { coordinator.new.content.standing ≡ looked_at → ⊥ }
     ensures backed { Backed R.stands (D.image disk.new) coordinator.new.content }
 {
-    let told = coordinator.mend_step(disk, steps);
+    let told = coordinator.mend_step(disk, 62, steps);
     (told, coordinator.state(), coordinator.count())
 }
 

@@ -2,7 +2,9 @@ use Rattle.std.proofs.Common.{◌≡◌, ◌+◌, ◌≤◌, ◌++◌, length, t
 use Rattle.txn_base.specs.Content.{Backed}
 use Rattle.txn_base.specs.Decoded.{coord_entries}
 use Rattle.txn_base.specs.Disk.{Since, Same, CountsFaults}
-use Rattle.txn_coordinator.specs.Mending.{AreRecordsFrom}
+use Rattle.txn_coordinator.specs.Mending.{AreRecordsFrom, AreReplayed}
+use Rattle.txn_model.specs.Coord.{CoordLawful}
+use Rattle.txn_model.specs.Skeletons.{coord_skeletons}
 use Rattle.txn_coordinator.specs.Table.{AreEntries}
 use Rattle.txn_coordinator.proofs.replay.stage.Given as goal
 
@@ -13,6 +15,8 @@ invariant-loop-place g l = record {
   entries : AreEntries (l.table.front ++ l.staged.items);
   read : g.D.Disk.tells → AreRecordsFrom (g.R.RecordLog.content l.log) l.at l.staged.items;
   tied : g.D.Disk.tells → l.table.front ≡ take l.at (coord_entries (g.R.RecordLog.content l.log).batches) → l.table.front ++ l.staged.items ≡ take l.place (coord_entries (g.R.RecordLog.content l.log).batches);
+  lawful : CoordLawful l.named (coord_skeletons l.table.front) → CoordLawful l.named (coord_skeletons (l.table.front ++ l.staged.items));
+  replayed : g.D.Disk.tells → AreReplayed l.named (g.R.RecordLog.content l.log) l.table.front → AreReplayed l.named (g.R.RecordLog.content l.log) (l.table.front ++ l.staged.items);
   counted : l.steps + l.at ≡ l.initial.steps + l.place;
   seen : g.D.Disk.seen l.disk ≡ g.D.Disk.seen l.initial.disk;
   images : Since g.D.Disk.moment g.D.Disk.image g.D.Disk.left_since Same l.initial.disk l.disk;

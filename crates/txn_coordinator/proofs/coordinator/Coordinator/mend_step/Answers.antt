@@ -1,9 +1,10 @@
-use Rattle.std.proofs.Common.{◌≡◌, Err, sym, subst, rules}
+use Rattle.std.proofs.Common.{◌≡◌, Err, take, sym, ap, ◌∙◌, subst, rules}
 use Rattle.std.proofs.lemmas.Result.{err_from_is_err_and}
 use Rattle.txn_base.specs.declared.part.MendError.TheVariants.{Damaged}
-use Rattle.txn_coordinator.specs.Mending.{IsSettledFrom}
+use Rattle.txn_base.specs.Decoded.{coord_entries}
+use Rattle.txn_coordinator.specs.Mending.{IsSettledFrom, AreReplayed}
 use Rattle.txn_coordinator.specs.View.{CoordView, IsFrontOf}
-use Rattle.txn_coordinator.proofs.Fronts.{front_settled}
+use Rattle.txn_coordinator.proofs.Fronts.{front_settled, replayed_settled}
 use Rattle.txn_coordinator.proofs.coordinator.Coordinator.mend_step.Goals as goal
 
 pub returns-in_err-replay-clause-bad : goal.returns-in_err-replay-clause-bad
@@ -12,4 +13,20 @@ returns-in_err-replay-clause-bad g c = λ told was place is.
     let q = c.in_err-replay.was in
     let told_so : c.replay.result ≡ Err (Damaged place) = cc (p.1, p.2, q) in
     let how : IsSettledFrom (g.R.RecordLog.content c.self.inside.log) (g.R.RecordLog.content c.settle_log.new.log) = search rules in
-    c.replay.ensures.bad told (front_settled (g.R.RecordLog.content c.self.inside.log) (g.R.RecordLog.content c.settle_log.new.log) c.self.inside.table.front c.self.inside.at c.self.invariant.at_is c.self.invariant.within how (subst (λ (v : CoordView). IsFrontOf v) (sym c.self.view_is) was)) place told_so
+    c.replay.ensures.bad told (replayed_settled c.args.named (g.R.RecordLog.content c.self.inside.log) (g.R.RecordLog.content c.settle_log.new.log) c.self.inside.table.front c.self.invariant.within how (subst (λ (v : CoordView). AreReplayed c.args.named v.content v.front) (sym c.self.view_is) was)) place told_so
+
+pub returns-in_err-replay-clause-replayed : goal.returns-in_err-replay-clause-replayed
+returns-in_err-replay-clause-replayed g c = λ told was.
+    let how : IsSettledFrom (g.R.RecordLog.content c.self.inside.log) (g.R.RecordLog.content c.settle_log.new.log) = search rules in
+    c.replay.ensures.replayed told (replayed_settled c.args.named (g.R.RecordLog.content c.self.inside.log) (g.R.RecordLog.content c.settle_log.new.log) c.self.inside.table.front c.self.invariant.within how (subst (λ (v : CoordView). AreReplayed c.args.named v.content v.front) (sym c.self.view_is) was))
+
+pub returns-clause-replayed : goal.returns-clause-replayed
+returns-clause-replayed g c = λ told was.
+    let how : IsSettledFrom (g.R.RecordLog.content c.self.inside.log) (g.R.RecordLog.content c.settle_log.new.log) = search rules in
+    c.replay.ensures.replayed told (replayed_settled c.args.named (g.R.RecordLog.content c.self.inside.log) (g.R.RecordLog.content c.settle_log.new.log) c.self.inside.table.front c.self.invariant.within how (subst (λ (v : CoordView). AreReplayed c.args.named v.content v.front) (sym c.self.view_is) was))
+
+pub returns-clause-tied : goal.returns-clause-tied
+returns-clause-tied g c = λ told was.
+    let how : IsSettledFrom (g.R.RecordLog.content c.self.inside.log) (g.R.RecordLog.content c.settle_log.new.log) = search rules in
+    let here = front_settled (g.R.RecordLog.content c.self.inside.log) (g.R.RecordLog.content c.settle_log.new.log) c.self.inside.table.front c.self.inside.at c.self.invariant.at_is c.self.invariant.within how (subst (λ (v : CoordView). IsFrontOf v) (sym c.self.view_is) was) in
+    c.in_ok-replay.ensures.tied told here ∙ ap (λ n. take n (coord_entries (g.R.RecordLog.content c.settle_log.new.log).batches)) (sym c.in_ok-replay.ensures.grown)

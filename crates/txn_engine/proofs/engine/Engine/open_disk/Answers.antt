@@ -1,10 +1,104 @@
-use Rattle.txn_base.proofs.Moments.{started}
-use Rattle.txn_engine.specs.Opening.{KeepsWorld}
-use Rattle.txn_engine.proofs.Going.{counts_still}
+use Rattle.std.proofs.Common.{◌≡◌, ℕ, ◌≤◌, List, length, Err, ap, ◌∙◌, subst, arith}
+use Rattle.std.proofs.lemmas.Result.{err_from_is_err_and}
+use Rattle.txn_model.specs.Sound.{ledger_file}
+use Rattle.txn_model.proofs.Named.{few_names}
+use Rattle.txn_coordinator.specs.View.{CoordView}
+use Rattle.txn_engine.specs.declared.opening.EngineError.TheVariants as engine
+use Rattle.txn_engine.specs.Kept.{IsCoordinator}
+use Rattle.txn_engine.specs.Table.{table_of}
+use Rattle.txn_engine.specs.Opening.{IsCoordinatorOf, IsDamagedPart, IsFirstDamagedTopic}
+use Rattle.txn_engine.proofs.OpeningAll.{told_before, damage_before, topics_elsewhere, parts_told, topic_damage, topic_file, log_damage, engine_opened, opened_table}
+use Rattle.txn_engine.proofs.OpeningFiles.{keeps_of, keeps_then, worlds_kept}
 use Rattle.txn_engine.proofs.engine.Engine.open_disk.Goals as goal
 
-pub returns-clause-images : goal.returns-clause-images
-returns-clause-images g c = started g.D.Disk.moment g.D.Disk.image g.D.Disk.left_since c.args.disk.now (KeepsWorld c.args.names.items) (λ files at w stands. stands)
+few : (names : List (List ℕ)) (n : ℕ) → n ≡ length names → length names ≤ 62 → n ≤ 62
+few names n e h = omega (arith, e, h)
 
-pub returns-clause-cause : goal.returns-clause-cause
-returns-clause-cause g c = counts_still _ _ (g.D.Disk.part_faults c.args.disk.now) _ (λ e. cc)
+pub overflow_cast-named : goal.overflow_cast-named
+overflow_cast-named g c =
+    let count : c.len-named.result ≡ length c.args.names.items = omega (arith, c.len-named.ensures, c.args.names.ok) in
+    let small : c.len-named.result ≤ 62 = few c.args.names.items c.len-named.result count (few_names c.args.names.items c.requires.names) in omega (arith, small)
+
+pub open_coordinator-requires : goal.open_coordinator-requires
+open_coordinator-requires g c =
+    let count : c.len-named.result ≡ length c.args.names.items = omega (arith, c.len-named.ensures, c.args.names.ok) in
+    record { named = few c.args.names.items c.len-named.result count (few_names c.args.names.items c.requires.names); limits = c.requires.limits }
+
+pub open_topics-requires-clause-named : goal.open_topics-requires-clause-named
+open_topics-requires-clause-named g c =
+    let count : c.len-named.result ≡ length c.args.names.items = omega (arith, c.len-named.ensures, c.args.names.ok) in
+    few c.args.names.items c.len-named.result count (few_names c.args.names.items c.requires.names)
+
+pub returns-in_err-coordinator-clause-damaged : goal.returns-in_err-coordinator-clause-damaged
+returns-in_err-coordinator-clause-damaged g c = λ file entry is.
+    let count : c.len-named.result ≡ length c.args.names.items = omega (arith, c.len-named.ensures, c.args.names.ok) in
+    let p = err_from_is_err_and c.from_residual.result c.from_residual.ensures.1 in
+    let q = c.in_err-coordinator.was in
+    let told_so : c.open_coordinator.result ≡ Err (engine.Damaged file entry) = cc (p.1, p.2, q) in
+    let one = c.open_coordinator.ensures.damaged file entry told_so in (
+      (0, omega arith, one.0),
+      λ told. log_damage (length c.args.names.items) (g.D.Disk.seen c.args.disk.now) file entry one.0
+          (subst (λ (n : ℕ). IsDamagedPart n 0 (g.D.Disk.seen c.args.disk.now (ledger_file 0)) entry) count (one.1 told)),
+    )
+
+pub returns-in_err-coordinator-clause-images : goal.returns-in_err-coordinator-clause-images
+returns-in_err-coordinator-clause-images g c =
+    worlds_kept g.D.Disk.moment g.D.Disk.image g.D.Disk.left_since c.args.names.items c.args.disk.now c.open_coordinator.new.disk
+    (keeps_of g.D.Disk.moment g.D.Disk.image g.D.Disk.left_since (ledger_file 0) c.args.disk.now c.open_coordinator.new.disk c.open_coordinator.ensures.images)
+
+pub returns-in_err-topics-clause-damaged : goal.returns-in_err-topics-clause-damaged
+returns-in_err-topics-clause-damaged g c = λ file entry is.
+    let count : c.len-named.result ≡ length c.args.names.items = omega (arith, c.len-named.ensures, c.args.names.ok) in
+    let p = err_from_is_err_and c.from_residual-in_err-topics.result c.from_residual-in_err-topics.ensures.1 in
+    let q = c.in_err-topics.was in
+    let told_so : c.open_topics.result ≡ Err (engine.Damaged file entry) = cc (p.1, p.2, q) in
+    let n : ℕ = length c.args.names.items in
+    let files = g.D.Disk.seen c.args.disk.now in
+    let mid = g.D.Disk.seen c.open_coordinator.new.disk in
+    let one : IsFirstDamagedTopic n g.D.Disk.tells files file entry =
+    damage_before n g.D.Disk.tells files mid file entry (topics_elsewhere files mid c.open_coordinator.ensures.others)
+    (subst (λ (m : ℕ). IsFirstDamagedTopic m g.D.Disk.tells mid file entry) count (c.open_topics.ensures.damaged file entry told_so)) in (
+      topic_file n g.D.Disk.tells files file entry one,
+      λ told. topic_damage n c.args.limits.now files c.in_ok-coordinator.coordinator
+          (subst (λ (m : ℕ). IsCoordinatorOf m c.in_ok-coordinator.coordinator (files (ledger_file 0))) count (c.in_ok-coordinator.ensures.told told)) g.D.Disk.tells file entry told one,
+    )
+
+pub returns-in_err-topics-clause-images : goal.returns-in_err-topics-clause-images
+returns-in_err-topics-clause-images g c =
+    worlds_kept g.D.Disk.moment g.D.Disk.image g.D.Disk.left_since c.args.names.items c.args.disk.now c.open_topics.new.disk
+    (keeps_then g.D.Disk.moment g.D.Disk.image g.D.Disk.left_since c.args.disk.now c.open_coordinator.new.disk c.open_topics.new.disk
+    (keeps_of g.D.Disk.moment g.D.Disk.image g.D.Disk.left_since (ledger_file 0) c.args.disk.now c.open_coordinator.new.disk c.open_coordinator.ensures.images) c.open_topics.ensures.images)
+
+pub returns-clause-images : goal.returns-clause-images
+returns-clause-images g c =
+    worlds_kept g.D.Disk.moment g.D.Disk.image g.D.Disk.left_since c.args.names.items c.args.disk.now c.open_topics.new.disk
+    (keeps_then g.D.Disk.moment g.D.Disk.image g.D.Disk.left_since c.args.disk.now c.open_coordinator.new.disk c.open_topics.new.disk
+    (keeps_of g.D.Disk.moment g.D.Disk.image g.D.Disk.left_since (ledger_file 0) c.args.disk.now c.open_coordinator.new.disk c.open_coordinator.ensures.images) c.open_topics.ensures.images)
+
+pub returns-clause-undamaged : goal.returns-clause-undamaged
+returns-clause-undamaged g c = λ told.
+    let count : c.len-named.result ≡ length c.args.names.items = omega (arith, c.len-named.ensures, c.args.names.ok) in
+    let files = g.D.Disk.seen c.args.disk.now in
+    let mid = g.D.Disk.seen c.open_coordinator.new.disk in
+    let opened = c.in_ok-topics.ensures.opened in
+    parts_told (length c.args.names.items) c.args.limits.now files c.in_ok-coordinator.coordinator
+    (subst (λ (m : ℕ). IsCoordinatorOf m c.in_ok-coordinator.coordinator (files (ledger_file 0))) count (c.in_ok-coordinator.ensures.told told))
+    c.in_ok-topics.topics.items (opened.1 ∙ count) opened.0
+    (told_before c.args.limits.now 1 files mid c.in_ok-topics.topics.items (omega arith) (topics_elsewhere files mid c.open_coordinator.ensures.others) opened.0 (c.in_ok-topics.ensures.told told))
+
+pub returns-clause-table : goal.returns-clause-table
+returns-clause-table g c = λ told w stands.
+    let count : c.len-named.result ≡ length c.args.names.items = omega (arith, c.len-named.ensures, c.args.names.ok) in
+    let names = c.args.names.items in
+    let files = g.D.Disk.seen c.args.disk.now in
+    let mid = g.D.Disk.seen c.open_coordinator.new.disk in
+    let coord : CoordView = c.in_ok-coordinator.coordinator in
+    let log = c.in_ok-coordinator.ensures.opened in
+    let opened = c.in_ok-topics.ensures.opened in
+    let ts = c.in_ok-topics.topics.items in
+    let is = engine_opened names c.args.limits.now coord ts c.requires.limits c.requires.names c.requires.topics
+    (subst (λ (m : ℕ). IsCoordinator c.args.limits.now m coord) count log.0) opened.0 (opened.1 ∙ count) in
+    ap table_of c.over.ensures
+    ∙ opened_table names c.args.limits.now coord ts is (record { coord = log.1; topics = opened.2 }) log.2 files
+    (subst (λ (m : ℕ). IsCoordinatorOf m coord (files (ledger_file 0))) count (c.in_ok-coordinator.ensures.told told))
+    (told_before c.args.limits.now 1 files mid ts (omega arith) (topics_elsewhere files mid c.open_coordinator.ensures.others) opened.0 (c.in_ok-topics.ensures.told told)) w stands

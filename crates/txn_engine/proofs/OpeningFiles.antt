@@ -1,0 +1,123 @@
+-- What opening leaves of files, and the counts of faults.
+use Rattle.std.proofs.Common.{◌≡◌, ◌⊎◌, ⊎_elim, inl, inr, ℕ, ◌≤◌, true, false, List, [], ◌∷◌, ◌++◌, All, sym, ap, ◌∙◌, subst, arith}
+use Rattle.std.specs.Prelude.{eqb}
+use Rattle.std.proofs.lemmas.Bool.Decides.{eqb_tells}
+use Rattle.std.proofs.lemmas.List.Elements.{All-head, All-tail, All-cons, All-nil}
+use Rattle.txn_base.specs.declared.file_id.FileId.{FileId}
+use Rattle.txn_base.specs.Content.{LedgerContent, Standing, settled, in_flight, looked_at, KeptOrNot, Backed, Settles}
+use Rattle.txn_base.specs.Disk.{Files, Elsewhere, Since, Changes, CountsFaults}
+use Rattle.txn_base.specs.Frames.{Batch, Stands}
+use Rattle.txn_base.specs.Outside.{Rose}
+use Rattle.txn_base.proofs.Moments.{goes_on, weaker}
+use Rattle.txn_base.proofs.Unique.{stands_one}
+use Rattle.txn_ledger.specs.Found.{KeepsList}
+use Rattle.txn_ledger.specs.Ledger.{IsFile, StandsIn}
+use Rattle.txn_model.specs.Sound.{ledger_file, part_file, StandsForEntries}
+use Rattle.txn_buffer.specs.View.{TopicView}
+use Rattle.txn_engine.specs.Opening.{KeepsLists, KeepsWorld}
+
+-- ---- One file changes.
+
+same_or_not : (a b : FileId) → (a ≡ b) ⊎ (a ≡ b → ⊥)
+same_or_not a b = parts (eqb_tells a.part b.part) (eqb_tells a.row b.row)
+  where
+    parts : ((eqb a.part b.part ≡ true) × (a.part ≡ b.part)) ⊎ ((eqb a.part b.part ≡ false) × (a.part ≡ b.part → ⊥)) → ((eqb a.row b.row ≡ true) × (a.row ≡ b.row)) ⊎ ((eqb a.row b.row ≡ false) × (a.row ≡ b.row → ⊥)) → (a ≡ b) ⊎ (a ≡ b → ⊥)
+    parts (inl p) (inl r) = inl (λ i. record { part = p.1 i; row = r.1 i })
+    parts (inr p) r = inr (λ e. p.1 (ap (λ (f : FileId). f.part) e))
+    parts (inl p) (inr r) = inr (λ e. r.1 (ap (λ (f : FileId). f.row) e))
+
+pub keeps_all : (key : FileId) (d c : Files) → Changes key KeepsList d c → KeepsLists d c
+keeps_all key d c is file = ⊎_elim
+    (λ same. subst (λ (f : FileId). KeepsList (d f) (c f)) (sym same) is.here)
+    (λ apart. subst (KeepsList (d file)) (sym (is.others file apart)) (λ batches stands. stands))
+    (same_or_not file key)
+
+pub same_key : (c : Files) (key file : FileId) (batches : List Batch) → key ≡ file → Stands (c key) batches → Stands (c file) batches
+same_key c key file batches e h = subst (λ (f : FileId). Stands (c f) batches) e h
+
+pub others_then : (key file : FileId) (a b c : Files) → key ≡ file → Elsewhere file a b → ((other : FileId) → (IsFile key other → ⊥) → c other ≡ b other) → Elsewhere file a c
+others_then key file a b c e one two other ne = two other (λ same. ne (same ∙ e)) ∙ one other ne
+
+-- ---- A file keeps its list through a step of a replay with nothing in flight.
+
+pub stands_here : (P : List Batch → Type 0) (batches : List Batch) (s : Standing) → s ≡ settled → KeptOrNot P batches s → P batches
+stands_here P batches s is here = subst (KeptOrNot P batches) is here
+
+module _ {D : Type 0} (moment : D → ℕ) (image : D → Files → Type 0) (left_since : D → ℕ → Files → Type 0) where
+  pub mended_keeps : (key : FileId) (content : LedgerContent) (old mid new : D) → content.key ≡ key → content.standing ≡ settled → Backed StandsIn (image mid) content
+      → Since moment image left_since (Changes key KeepsList) old mid → Since moment image left_since (Settles IsFile StandsIn content) mid new
+      → Since moment image left_since (Changes key KeepsList) old new
+  mended_keeps key content old mid new key_is settled_is backed so_far call =
+      goes_on moment image left_since (Changes key KeepsList) (Settles IsFile StandsIn content) (Changes key KeepsList) old mid new so_far call
+      (λ d c at one. one) (λ d e c at one mid_at two. further d e c one mid_at two)
+    where
+      further : (d e c : Files) → Changes key KeepsList d e → image mid e → Settles IsFile StandsIn content e c → Changes key KeepsList d c
+      further d e c one at two = record {
+        here = λ batches stands.
+            let before : Stands (e key) content.batches = same_key e content.key key content.batches key_is (stands_here (StandsIn content.key e) content.batches content.standing settled_is (backed.each e at)) in
+            let after : Stands (c key) content.batches = same_key c content.key key content.batches key_is (stands_here (StandsIn content.key c) content.batches content.standing settled_is two.here) in
+            subst (Stands (c key)) (stands_one (e key) content.batches batches before (one.here batches stands)) after;
+        others = λ other ne. two.others other (λ same. ne (same ∙ key_is)) ∙ one.others other ne;
+      }
+
+  -- ---- Each file keeps its list.
+
+  pub keeps_of : (key : FileId) (old new : D) → Since moment image left_since (Changes key KeepsList) old new → Since moment image left_since KeepsLists old new
+  keeps_of key old new since = weaker moment image left_since (Changes key KeepsList) KeepsLists old new (λ d c at is. keeps_all key d c is) since
+
+  pub keeps_then : (old mid new : D) → Since moment image left_since KeepsLists old mid → Since moment image left_since KeepsLists mid new → Since moment image left_since KeepsLists old new
+  keeps_then old mid new one two = goes_on moment image left_since KeepsLists KeepsLists KeepsLists old mid new one two (λ d c at is. is) (λ d e c at first mid_at second file batches stands. second file batches (first file batches stands))
+
+  backed_kept : (content : LedgerContent) (old new : D) → Since moment image left_since KeepsLists old new → Backed StandsIn (image old) content → Backed StandsIn (image new) content
+  backed_kept content old new since backed = record { each = λ c at. let from = since.at_end c at in on content.standing from.0 c from.2 (backed.each from.0 from.1) }
+    where
+      on : (s : Standing) (d c : Files) → KeepsLists d c → KeptOrNot (StandsIn content.key d) content.batches s → KeptOrNot (StandsIn content.key c) content.batches s
+      on settled d c keeps h = keeps content.key content.batches h
+      on looked_at d c keeps h = keeps content.key content.batches h
+      on (in_flight batch) d c keeps h = ⊎_elim (λ none. inl (keeps content.key content.batches none)) (λ more. inr (keeps content.key (content.batches ++ batch ∷ []) more)) h
+
+  pub topics_kept : (ts : List TopicView) (old new : D) → Since moment image left_since KeepsLists old new → All (λ t. Backed StandsIn (image old) t.content) ts → All (λ t. Backed StandsIn (image new) t.content) ts
+  topics_kept [] old new since all = All-nil (λ t. Backed StandsIn (image new) t.content)
+  topics_kept (t ∷ ts) old new since all =
+      All-cons (λ t. Backed StandsIn (image new) t.content) t ts
+      (backed_kept t.content old new since (All-head (λ t. Backed StandsIn (image old) t.content) t ts all)) (topics_kept ts old new since (All-tail (λ t. Backed StandsIn (image old) t.content) t ts all))
+
+  -- ---- The files stand for the world for which they stood.
+
+  entries_kept : {E : Type 0} (is : List ℕ → E → Type 0) (before after : List ℕ) (es : List E) → KeepsList before after → StandsForEntries is before es → StandsForEntries is after es
+  entries_kept is before after es keeps was = record { batches = was.batches; stands = keeps was.batches was.stands; each = was.each }
+
+  world_kept : (names : List (List ℕ)) (d c : Files) → KeepsLists d c → KeepsWorld names d c
+  world_kept names d c keeps w was = record {
+    named = was.named;
+    shaped = was.shaped;
+    coord = entries_kept _ _ _ w.coord (keeps (ledger_file 0)) was.coord;
+    topics = λ p h. entries_kept _ _ _ _ (keeps (ledger_file p)) (was.topics p h);
+    subs = λ p h. entries_kept _ _ _ _ (keeps (ledger_file p)) (was.subs p h);
+    others = λ p row above most few. keeps (part_file p row) [] (was.others p row above most few);
+  }
+
+  pub worlds_kept : (names : List (List ℕ)) (old new : D) → Since moment image left_since KeepsLists old new → Since moment image left_since (KeepsWorld names) old new
+  worlds_kept names old new since = weaker moment image left_since KeepsLists (KeepsWorld names) old new (λ d c at keeps. world_kept names d c keeps) since
+
+-- ---- Counts of one part.
+
+rose_then : (a b c : ℕ) → a ≤ b → Rose b c → Rose a c
+rose_then a b c le rose = grind (arith, le, rose)
+
+pub part_none : (p f g : ℕ) (fs gs : ℕ → ℕ) (X : Type 0) → CountsFaults p f g fs gs X → CountsFaults p f g fs gs ⊥
+part_none p f g fs gs X h = record { later = h.later; parts_later = h.parts_later; failed = λ none. absurd none; others = h.others }
+
+pub part_then : (p f g h : ℕ) (fs gs hs : ℕ → ℕ) (X Y : Type 0) → CountsFaults p f g fs gs X → CountsFaults p g h gs hs Y → CountsFaults p f h fs hs Y
+part_then p f g h fs gs hs X Y one two = record {
+  later = omega (arith, one.later, two.later);
+  parts_later = λ q. omega (arith, one.parts_later q, two.parts_later q);
+  failed = λ y. (rose_then f g h one.later (two.failed y).0, rose_then (fs p) (gs p) (hs p) (one.parts_later p) (two.failed y).1);
+  others = λ q most other. two.others q most other ∙ one.others q most other;
+}
+
+pub part_at : (p : ℕ) (key : FileId) (f g : ℕ) (fs gs : ℕ → ℕ) (X : Type 0) → key ≡ ledger_file p → CountsFaults key.part f g fs gs X → CountsFaults p f g fs gs X
+part_at p key f g fs gs X is h = subst (λ (k : FileId). CountsFaults k.part f g fs gs X) is h
+
+pub part_but : (p f g : ℕ) (fs gs : ℕ → ℕ) (X Y : Type 0) → (Y → X) → CountsFaults p f g fs gs X → CountsFaults p f g fs gs Y
+part_but p f g fs gs X Y means h = record { later = h.later; parts_later = h.parts_later; failed = λ y. h.failed (means y); others = h.others }

@@ -1,0 +1,22 @@
+use Rattle.std.proofs.Common.{◌≡◌, ◌<◌, ℕ, length, All, IsTrue, vec_capacity, ◌≤◌}
+use Rattle.txn_base.specs.Content.{Backed}
+use Rattle.txn_base.specs.Disk.{Since}
+use Rattle.txn_ledger.specs.Ledger.{StandsIn}
+use Rattle.txn_model.specs.Sound.{ledger_file}
+use Rattle.txn_engine.specs.Kept.{AreTopics}
+use Rattle.txn_engine.specs.Opening.{IsTopicOf, KeepsLists}
+use Rattle.txn_engine.specs.Told.{CountsWithin}
+use Rattle.txn_engine.proofs.opening.topics.open_topics.Given as goal
+
+abbrev pub invariant-loop-index : goal.invariant-loop-index
+invariant-loop-index g l = record {
+  count : length l.topics.items ≡ l.index;
+  room : l.named ≤ vec_capacity l.topics;
+  are : AreTopics l.limits 1 l.topics.items;
+  whole : All (λ t. IsTrue t.whole) l.topics.items;
+  backed : All (λ t. Backed StandsIn (g.D.Disk.image l.disk) t.content) l.topics.items;
+  told : g.D.Disk.tells → All (λ t. IsTopicOf t (g.D.Disk.seen l.fn.disk t.content.key)) l.topics.items;
+  images : Since g.D.Disk.moment g.D.Disk.image g.D.Disk.left_since KeepsLists l.fn.disk l.disk;
+  others : (q : ℕ) → l.index < q → g.D.Disk.seen l.disk (ledger_file q) ≡ g.D.Disk.seen l.fn.disk (ledger_file q);
+  counts : CountsWithin l.named (g.D.Disk.faults l.fn.disk) (g.D.Disk.faults l.disk) (g.D.Disk.part_faults l.fn.disk) (g.D.Disk.part_faults l.disk) ⊥;
+}

@@ -1,0 +1,92 @@
+//! The topics, opened and rebuilt one after another.
+ghost use Rattle.std.specs.Prelude.{◌≡◌, ◌≤◌, ◌<◌, ℕ, Err, length, All, IfOk, IsTrue};
+ghost use Rattle.txn_base.specs.Content.{Backed};
+ghost use Rattle.txn_base.specs.Disk.{Elsewhere, Since, Changes, CountsFaults};
+ghost use Rattle.txn_base.specs.Limits.{InRange};
+ghost use Rattle.txn_base.specs.declared.file_id.FileId.{FileId};
+ghost use Rattle.txn_buffer.specs.View.{total_of};
+ghost use Rattle.txn_ledger.specs.Found.{KeepsList};
+ghost use Rattle.txn_ledger.specs.Ledger.{StandsIn};
+ghost use Rattle.txn_model.specs.Sound.{ledger_file};
+ghost use Rattle.txn_model.specs.Topic.{TopicLawful};
+ghost use Rattle.txn_engine.specs.Kept.{IsTopic, AreTopics};
+ghost use Rattle.txn_engine.specs.Opening.{IsTopicOf, IsDamagedTopic, IsFirstDamagedTopic, KeepsLists};
+ghost use Rattle.txn_engine.specs.Told.{CountsWithin};
+
+use crate::opening::EngineError;
+use crate::opening::unopened::{unmended, unopened};
+use std::alloc::Global;
+use std::sync::ledger;
+use txn_base::{Disk, FileId, Limits, PartState, Steps};
+use txn_buffer::Topic;
+use txn_ledger::Ledger;
+
+/// Opens the ledgers of so many topics, which are numbered from 1, and replays all of each before the next is opened.
+pub fn open_topics<D: Disk, L: ledger::Ledger>(
+    alloc: Global,
+    named: u32,
+    limits: &Limits,
+    disk: &mut D,
+    steps: &mut Steps<L>,
+) -> Result<Vec<Topic<Ledger>>, EngineError>
+    requires named { named ≤ 62 }
+    requires limits { InRange limits.now }
+    ensures opened { IfOk result (λ topics. AreTopics limits.now 1 topics.items × (length topics.items ≡ named) × All (λ t. IsTrue t.whole) topics.items) }
+    ensures backed { IfOk result (λ topics. All (λ t. Backed StandsIn (D.image disk.new) t.content) topics.items) }
+    ensures told { D.tells → IfOk result (λ topics. All (λ t. IsTopicOf t (D.seen disk.old t.content.key)) topics.items) }
+    ensures damaged { (file : FileId) (entry : ℕ) → result ≡ Err (EngineError.Damaged file entry) → IsFirstDamagedTopic named D.tells (D.seen disk.old) file entry }
+    ensures images { Since D.moment D.image D.left_since KeepsLists disk.old disk.new }
+    ensures cause { CountsWithin named (D.faults disk.old) (D.faults disk.new) (D.part_faults disk.old) (D.part_faults disk.new) (result ≡ Err EngineError.Fault) }
+{
+    let Ok(mut topics) = Vec::with_capacity(alloc, named as usize) else {
+        return Err(EngineError::NoMemory);
+    };
+    for index in 0..named {
+        let topic = open_topic(alloc, index + 1, limits, disk, steps)?;
+        topics.push_reserved(topic);
+    }
+    Ok(topics)
+}
+
+/// Opens the ledger of a topic, and replays all of it.
+fn open_topic<D: Disk, L: ledger::Ledger>(
+    alloc: Global,
+    part: u32,
+    limits: &Limits,
+    disk: &mut D,
+    steps: &mut Steps<L>,
+) -> Result<Topic<Ledger>, EngineError>
+    requires limits { InRange limits.now }
+    ensures opened { IfOk result (λ t. IsTopic limits.now part t × IsTrue t.whole) }
+    ensures backed { IfOk result (λ t. Backed StandsIn (D.image disk.new) t.content) }
+    ensures told { D.tells → IfOk result (λ t. IsTopicOf t (D.seen disk.old (ledger_file part))) }
+    ensures damaged { (file : FileId) (entry : ℕ) → result ≡ Err (EngineError.Damaged file entry) → (file ≡ ledger_file part) × (D.tells → IsDamagedTopic (D.seen disk.old (ledger_file part)) entry) }
+    ensures images { Since D.moment D.image D.left_since (Changes (ledger_file part) KeepsList) disk.old disk.new }
+    ensures others { Elsewhere (ledger_file part) (D.seen disk.old) (D.seen disk.new) }
+    ensures cause { CountsFaults part (D.faults disk.old) (D.faults disk.new) (D.part_faults disk.old) (D.part_faults disk.new) (result ≡ Err EngineError.Fault) }
+{
+    let file = FileId { part, row: 2 };
+    let log = match Ledger::open_file(alloc, disk, file) {
+        Ok(log) => log,
+        Err(error) => return Err(unopened(file, error)),
+    };
+    let Ok(mut topic) = Topic::over(alloc, log, part, limits) else {
+        return Err(EngineError::NoMemory);
+    };
+    while !is_whole(&topic) {
+        if let Err(error) = topic.mend_step(disk, steps) {
+            return Err(unmended(file, error));
+        }
+    }
+    Ok(topic)
+}
+
+/// All of its ledger is replayed.
+fn is_whole(topic: &Topic<Ledger>) -> bool
+    ensures whole { result ≡ topic.now.whole }
+    ensures lawful { TopicLawful topic.now.front }
+    ensures within { length topic.now.front ≤ total_of topic.now }
+    ensures all { IsTrue topic.now.whole → length topic.now.front ≡ total_of topic.now }
+{
+    matches!(topic.state(), PartState::Whole)
+}
