@@ -3,12 +3,9 @@ ghost use Rattle.std.specs.Prelude.{};
 ghost use Rattle.txn_base.specs.Limits.{InRange};
 
 use std::alloc::{AllocError, Global};
-use txn_base::{Bytes, FileId, Limits, Text};
-use txn_memdisk::{FaultAt, ListClock, MemDisk, MemSink, MemSource};
+use txn_base::{Bytes, Limits, Text};
+use txn_memdisk::{ListClock, MemDisk, MemSink, MemSource};
 use txn_run::run;
-
-/// The ledger of the first topic.
-pub const TOPIC: FileId = FileId { part: 1, row: 2 };
 
 /// How a run ended, and what it put.
 #[derive(Debug, Drop)]
@@ -25,14 +22,31 @@ impl Ran {
     }
 }
 
-/// A disk on which these bytes are the topic's ledger.
-pub fn disk_with(alloc: Global, bytes: &[u8], faults: &[FaultAt]) -> Result<MemDisk, AllocError> {
-    let mut disk = MemDisk::new(alloc, faults)?;
-    disk.put_file(TOPIC, bytes)?;
-    Ok(disk)
+/// A run with these words over a source, a sink and a clock.
+fn run_by(
+    alloc: Global,
+    words: &[&str],
+    limits: &Limits,
+    disk: &mut MemDisk,
+    source: &mut MemSource,
+    sink: &mut MemSink,
+    clock: &mut ListClock,
+) -> Result<Ran, AllocError>
+    requires { InRange limits.now }
+{
+    let mut texts = Vec::new(alloc);
+    for word in words {
+        texts.push(Text::from_str(alloc, word)?)?;
+    }
+    let status = run(alloc, &texts, limits, disk, source, sink, clock);
+    let put = str::from_utf8(sink.bytes()).unwrap_or("bytes that are no text");
+    Ok(Ran {
+        status: format!(in alloc; "{status:?}")?,
+        put: String::from_str(alloc, put)?,
+    })
 }
 
-/// A run with these words over a source and a sink.
+/// A run with these words over a source and a sink. Its clock tells 0.
 pub fn run_over(
     alloc: Global,
     words: &[&str],
@@ -43,17 +57,8 @@ pub fn run_over(
 ) -> Result<Ran, AllocError>
     requires { InRange limits.now }
 {
-    let mut texts = Vec::new(alloc);
-    for word in words {
-        texts.push(Text::from_str(alloc, word)?)?;
-    }
     let mut clock = ListClock::new(&[]);
-    let status = run(alloc, &texts, limits, disk, source, sink, &mut clock);
-    let put = str::from_utf8(sink.bytes()).unwrap_or("bytes that are no text");
-    Ok(Ran {
-        status: format!(in alloc; "{status:?}")?,
-        put: String::from_str(alloc, put)?,
-    })
+    run_by(alloc, words, limits, disk, source, sink, &mut clock)
 }
 
 /// A run with these words and this input, which comes in pieces of 4,096 bytes.
@@ -70,6 +75,32 @@ pub fn run_words(
     let mut source = MemSource::new(alloc, bytes, 4096, &[])?;
     let mut sink = MemSink::new(alloc, 4096, &[])?;
     run_over(alloc, words, limits, disk, &mut source, &mut sink)
+}
+
+/// A run over the topic `orders`, whose clock tells these moments.
+pub fn run_at(
+    alloc: Global,
+    limits: &Limits,
+    disk: &mut MemDisk,
+    moments: &[u64],
+    input: &str,
+) -> Result<Ran, AllocError>
+    requires { InRange limits.now }
+{
+    let words = ["lines", "orders"];
+    let bytes = Bytes::from_slice(alloc, input.as_bytes())?;
+    let mut source = MemSource::new(alloc, bytes, 4096, &[])?;
+    let mut sink = MemSink::new(alloc, 4096, &[])?;
+    let mut clock = ListClock::new(moments);
+    run_by(
+        alloc,
+        &words,
+        limits,
+        disk,
+        &mut source,
+        &mut sink,
+        &mut clock,
+    )
 }
 
 /// A run over the topic `orders`.
