@@ -81,6 +81,7 @@ pub record MarksUpTo {D : Type 0} (moment : D → ℕ) (image : D → Files → 
   pub count : length u.topics ≡ length v.topics
   pub few : length v.topics ≤ 62
   pub coord : u.coord ≡ v.coord
+  pub limits : u.limits ≡ v.limits
   pub whole : IsWhole u
   pub ready : (j : ℕ) (t : TopicView) → at ≤ j → j < length u.topics → in_parts (coord_skeletons v.coord.front) x (1 + j) ≡ true → (slice_index_or u.topics j t).reserved ≡ 1
   pub given : AreMarked x u at
@@ -97,6 +98,7 @@ module _ {D : Type 0} (moment : D → ℕ) (image : D → Files → Type 0) (lef
     count = refl;
     few = subst (λ (n : ℕ). n ≤ 62) (sym is.count) (few_names v.names is.names);
     coord = refl;
+    limits = refl;
     whole = whole;
     ready = λ j t from below has. ready j t below below has;
     given = λ j t before. absurd (none j before);
@@ -124,6 +126,7 @@ module _ {D : Type 0} (moment : D → ℕ) (image : D → Files → Type 0) (lef
       count = so.count;
       few = so.few;
       coord = so.coord;
+      limits = so.limits;
       whole = so.whole;
       ready = λ j t from. so.ready j t (earlier at j from);
       given = λ j t before within in_it. given_by j t (j == at) refl before within in_it;
@@ -163,6 +166,7 @@ module _ {D : Type 0} (moment : D → ℕ) (image : D → Files → Type 0) (lef
           count = elsewhere.count ∙ so.count;
           few = so.few;
           coord = elsewhere.coord ∙ so.coord;
+          limits = elsewhere.limits ∙ so.limits;
           whole = whole_now goes.whole;
           ready = λ j t from within in_it.
               ap (λ (k : TopicView). k.reserved) (elsewhere.topics j t (apart at j from)) ∙ so.ready j t (earlier at j from) (omega (arith, within, elsewhere.count)) in_it;

@@ -20,6 +20,8 @@ IsAsked (request.Add x part) = Unit {0}
 IsAsked (request.Publish topic who bodies) = 1 ≤ length bodies
 IsAsked (request.Read topic first max) = 1 ≤ max
 IsAsked (request.Status x) = Unit {0}
+IsAsked (request.Commit x) = Unit {0}
+IsAsked (request.Abort x) = Unit {0}
 IsAsked _ = ⊥
 
 -- The disk's count and that of this part rose.

@@ -16,7 +16,7 @@ ghost use Rattle.txn_wire.specs.Short.{is_long};
 
 use crate::engine::Engine;
 use std::sync::ledger;
-use txn_base::{Disk, Refusal, Reply, Request, Steps};
+use txn_base::{Decision, Disk, Refusal, Reply, Request, Steps};
 
 impl Engine {
     /// The reply to one request at this moment, which is read of a `new` alone. Every part is rebuilt at the call; where
@@ -84,6 +84,8 @@ impl Engine {
             Request::Add { txn, part } => self.add(disk, *txn, part),
             Request::Publish { topic, txn, bodies } => self.publish(disk, topic, *txn, bodies),
             Request::Read { topic, first, max } => self.read(disk, topic, *first, *max, steps),
+            Request::Commit { txn } => self.end(disk, *txn, Decision::Commit),
+            Request::Abort { txn } => self.end(disk, *txn, Decision::Abort),
             Request::Status { txn } => self.status(*txn),
             _ => Reply::No(Refusal::BadLine),
         }

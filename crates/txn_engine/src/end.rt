@@ -43,6 +43,7 @@ impl Engine {
         requires backed { IsBacked (D.image disk.old) self.old }
         ensures told { D.tells → IsTied self.old → (now : ℕ) → MayTell (D.faults disk.old) (D.faults disk.new) (D.part_faults disk.old) (D.part_faults disk.new) self.old (end_of decision txn) now result self.new }
         ensures tellable { IsTellable result }
+        ensures limits { self.new.limits ≡ self.old.limits }
         ensures goes { Goes D.moment D.image D.left_since D.faults D.part_faults (is_fault result ≡ true) self.old self.new disk.old disk.new }
     {
         if txn.most != 0 {
@@ -66,6 +67,7 @@ impl Engine {
         requires backed { IsBacked (D.image disk.old) self.old }
         ensures told { D.tells → IsTied self.old → (now : ℕ) → MayTell (D.faults disk.old) (D.faults disk.new) (D.part_faults disk.old) (D.part_faults disk.new) self.old (end_of decision txn) now result self.new }
         ensures tellable { IsTellable result }
+        ensures limits { self.new.limits ≡ self.old.limits }
         ensures goes { Goes D.moment D.image D.left_since D.faults D.part_faults (is_fault result ≡ true) self.old self.new disk.old disk.new }
     {
         match self.decide(disk, txn, decision) {
@@ -88,6 +90,7 @@ impl Engine {
         ensures decided { OnOk result (decision_of (coord_skeletons self.new.coord.front) txn ≡ Some decision) }
         ensures whole { OnOk result (IsWhole self.new) }
         ensures ready { IsReady txn self.old → OnOk result (IsReady txn self.new) }
+        ensures limits { self.new.limits ≡ self.old.limits }
         ensures goes { Goes D.moment D.image D.left_since D.faults D.part_faults (result ≡ Err CoordError.Fault) self.old self.new disk.old disk.new }
     {
         self.coordinator.decide(disk, txn, decision)
@@ -102,6 +105,7 @@ impl Engine {
         requires backed { IsBacked (D.image disk.old) self.old }
         ensures told { D.tells → IsTied self.old → Drives (RoseFor (D.faults disk.old) (D.faults disk.new) (D.part_faults disk.old) (D.part_faults disk.new)) txn (table_of self.old) result (table_of self.new) }
         ensures tellable { IsTellableEnd result }
+        ensures limits { self.new.limits ≡ self.old.limits }
         ensures goes { Goes D.moment D.image D.left_since D.faults D.part_faults (is_stopped result.stuck ≡ true) self.old self.new disk.old disk.new }
     {
         if self.is_closed(txn) {
@@ -133,6 +137,7 @@ impl Engine {
         ensures ok { D.tells → IsTied self.old → OnOk result (table_of self.new ≡ with_batch (closing_batch txn decision) (table_of self.old)) }
         ensures err { D.tells → IsTied self.old → OnErr result (table_of self.new ≡ fenced_by (closing_batch txn decision) 0 (table_of self.old)) }
         ensures rose { OnErr result (RoseFor (D.faults disk.old) (D.faults disk.new) (D.part_faults disk.old) (D.part_faults disk.new) 0) }
+        ensures limits { self.new.limits ≡ self.old.limits }
         ensures goes { Goes D.moment D.image D.left_since D.faults D.part_faults (IsErr result) self.old self.new disk.old disk.new }
     {
         let _ = decision;
@@ -151,6 +156,7 @@ impl Engine {
         ensures within { IfErr result (λ at. at < length self.old.names) }
         ensures coord { self.new.coord ≡ self.old.coord }
         ensures marked { OnOk result (AreMarked txn self.new (length self.new.topics)) }
+        ensures limits { self.new.limits ≡ self.old.limits }
         ensures goes { Goes D.moment D.image D.left_since D.faults D.part_faults (IsErr result) self.old self.new disk.old disk.new }
     {
         let parts = self.coordinator.parts(txn);
