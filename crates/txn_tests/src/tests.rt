@@ -9,6 +9,7 @@ mod limits;
 mod lines;
 mod logs;
 mod odd_json;
+mod openings;
 mod plain;
 mod refusals;
 mod statuses;
