@@ -24,3 +24,15 @@ returns-in-Read-clause-instead g c = λ told tied long. (asked_so _ _ (g.D.Disk.
 
 pub returns-in-Status-clause-answers : goal.returns-in-Status-clause-answers
 returns-in-Status-clause-answers g c = λ told tied. (asked_so _ _ (g.D.Disk.part_faults c.args.disk.now) (g.D.Disk.part_faults c.args.disk.now) _ _ _ _ _ _ c.in-Status.is (c.status.ensures.told _ _ (g.D.Disk.part_faults c.args.disk.now) (g.D.Disk.part_faults c.args.disk.now) tied c.args.now)).answers
+
+pub returns-in-Commit-clause-answers : goal.returns-in-Commit-clause-answers
+returns-in-Commit-clause-answers g c = λ told tied. (asked_so _ _ (g.D.Disk.part_faults c.args.disk.now) (g.D.Disk.part_faults c.end.new.disk) _ _ _ _ _ _ c.in-Commit.is (c.end.ensures.told told tied c.args.now)).answers
+
+pub returns-in-Commit-clause-instead : goal.returns-in-Commit-clause-instead
+returns-in-Commit-clause-instead g c = λ told tied long. (asked_so _ _ (g.D.Disk.part_faults c.args.disk.now) (g.D.Disk.part_faults c.end.new.disk) _ _ _ _ _ _ c.in-Commit.is (c.end.ensures.told told tied c.args.now)).instead long
+
+pub returns-in-Abort-clause-answers : goal.returns-in-Abort-clause-answers
+returns-in-Abort-clause-answers g c = λ told tied. (asked_so _ _ (g.D.Disk.part_faults c.args.disk.now) (g.D.Disk.part_faults c.end-in-Abort.new.disk) _ _ _ _ _ _ c.in-Abort.is (c.end-in-Abort.ensures.told told tied c.args.now)).answers
+
+pub returns-in-Abort-clause-instead : goal.returns-in-Abort-clause-instead
+returns-in-Abort-clause-instead g c = λ told tied long. (asked_so _ _ (g.D.Disk.part_faults c.args.disk.now) (g.D.Disk.part_faults c.end-in-Abort.new.disk) _ _ _ _ _ _ c.in-Abort.is (c.end-in-Abort.ensures.told told tied c.args.now)).instead long

@@ -1,0 +1,99 @@
+//! What opening the ledgers of a disk with two topics tells.
+ghost use Rattle.std.specs.Prelude.{◌≡◌, All, true, IfOk};
+ghost use Rattle.txn_base.specs.Names.{is_topic_name};
+ghost use Rattle.txn_model.specs.Names.{NamesLawful};
+
+use crate::*;
+use std::alloc::{AllocError, Global};
+use std::marker::Brand;
+use std::sync::ledger::{self, Blank};
+use txn_base::{FileId, Limits, Request, Steps, Text, TxnId};
+use txn_engine::Engine;
+use txn_memdisk::MemDisk;
+
+/// The names of two topics.
+fn names(alloc: Global) -> Result<Vec<Text>, AllocError>
+    ensures lawful { IfOk result (λ names. NamesLawful names.items) }
+    ensures topics { IfOk result (λ names. All (λ name. is_topic_name name ≡ true) names.items) }
+{
+    let mut names = Vec::with_capacity(alloc, 2)?;
+    let a = Text::from_str(alloc, "a")?;
+    let b = Text::from_str(alloc, "b")?;
+    names.push_reserved(a);
+    names.push_reserved(b);
+    Ok(names)
+}
+
+/// What opening the disk tells, or how far its first transaction is then.
+fn opened<L: ledger::Ledger>(
+    alloc: Global,
+    blank: Blank,
+    disk: &mut MemDisk,
+) -> Result<String, AllocError>
+    requires name { blank.name ≡ L.name }
+    requires parts { blank.parts ≡ L.parts }
+    requires one { L.parts ≡ 1 }
+{
+    let names = names(alloc)?;
+    let mut steps = Steps::<L>::new(blank);
+    let first = Request::Status {
+        txn: TxnId { most: 0, least: 0 },
+    };
+    match Engine::open_disk(alloc, names, &Limits::standard(), disk, &mut steps) {
+        Ok(mut engine) => {
+            let told = engine.answer(disk, 0, &first, &mut steps);
+            format!(in alloc; "{told:?}")
+        }
+        Err(error) => format!(in alloc; "{error:?}"),
+    }
+}
+
+// A log, the ledgers of both topics, and what opening them tells. In a log 1 is a new transaction, 2 adds a part to one; in
+// a topic 1 is a message, 7 isn't in the grammar.
+const DISKS: [(&[Short], &[Short], &[Short], &str); 6] = [
+    (&[], &[], &[], "No(NotFound)"),
+    (
+        &[(1, 0, 0), (2, 0, 2)],
+        &[(1, 0, b'x')],
+        &[(2, 0, b'y')],
+        "Status { status: Open }",
+    ),
+    (
+        &[(1, 0, 0), (2, 0, 3), (1, 0, 0)],
+        &[(7, 0, 0)],
+        &[],
+        "Damaged { file: FileId { part: 0, row: 2 }, entry: 1 }",
+    ),
+    (
+        &[(1, 0, 0)],
+        &[(7, 0, 0)],
+        &[(7, 0, 0)],
+        "Damaged { file: FileId { part: 1, row: 2 }, entry: 0 }",
+    ),
+    (
+        &[],
+        &[(1, 0, b'x')],
+        &[(1, 0, b'y'), (7, 0, 0)],
+        "Damaged { file: FileId { part: 2, row: 2 }, entry: 1 }",
+    ),
+    (
+        &[],
+        &[],
+        &[(3, 0, 0), (2, 0, b'y')],
+        "Damaged { file: FileId { part: 2, row: 2 }, entry: 1 }",
+    ),
+];
+
+#[test]
+fn first_damage_in_the_order_of_the_parts_is_told(rt: HostRuntime) -> Result<(), AllocError> {
+    let alloc = rt.alloc();
+    for (log, a, b, want) in &DISKS {
+        let mut disk = MemDisk::new(alloc, &[])?;
+        disk.put_file(FileId { part: 0, row: 2 }, log_file(alloc, log)?.as_slice())?;
+        disk.put_file(FileId { part: 1, row: 2 }, topic_file(alloc, a)?.as_slice())?;
+        disk.put_file(FileId { part: 2, row: 2 }, topic_file(alloc, b)?.as_slice())?;
+        let told = opened::<Brand>(alloc, Blank::new(1), &mut disk)?;
+        assert_eq!(rt; told.as_str(), *want);
+    }
+    Ok(())
+}
