@@ -1,5 +1,5 @@
 -- How an engine goes on where a transaction is closed.
-use Rattle.std.proofs.Common.{◌≡◌, ◌⊎◌, inl, inr, ℕ, ◌+◌, ◌-◌, ◌<◌, ◌≤◌, Bool, true, false, List, [], ◌∷◌, ◌++◌, length, Option, Some, None, is_some, Result, Ok, Err, IsOk, IsErr, OnOk, OnErr, IsTrue, refl, sym, ap, ◌∙◌, subst, arith, unwrap_or, slice_index_or}
+use Rattle.std.proofs.Common.{◌≡◌, ◌⊎◌, inl, inr, ℕ, ◌+◌, ◌-◌, ◌<◌, ◌≤◌, Bool, true, false, List, length, Option, Some, None, is_some, Result, Ok, Err, IsOk, IsErr, OnOk, OnErr, IsTrue, refl, sym, ap, ◌∙◌, subst, arith, unwrap_or}
 use Rattle.std.proofs.Math.ListN.{get_or}
 use Rattle.txn_base.specs.declared.core_entry.CoreEntry.{CoreEntry}
 use Rattle.txn_base.specs.declared.entry.CoordEntry.{CoordEntry}
@@ -10,24 +10,22 @@ use Rattle.txn_base.specs.declared.txn.Decision.{Decision}
 use Rattle.txn_base.specs.declared.txn.Decision.TheVariants.{Commit, Abort}
 use Rattle.txn_base.specs.declared.txn.Status.{Status}
 use Rattle.txn_base.specs.Content.{Appends, Backed}
-use Rattle.txn_base.specs.Disk.{Files, Since, HasPartCause, CountsFaults}
+use Rattle.txn_base.specs.Disk.{Files, Since, HasPartCause}
 use Rattle.txn_base.specs.Outside.{Rose}
 use Rattle.txn_base.specs.Records.{IsTxnId, IsCoordEntry}
-use Rattle.txn_coordinator.specs.Calls.{status_in_view, closing_of_view}
+use Rattle.txn_coordinator.specs.Calls.{closing_of_view}
 use Rattle.txn_coordinator.specs.View as coordinator
 use Rattle.txn_coordinator.specs.View.{CoordView, coord_batch, logged, fenced, reserving}
 use Rattle.txn_ledger.specs.Ledger.{IsFile, StandsIn}
 use Rattle.txn_model.specs.Allowed.{IsAllowed}
-use Rattle.txn_model.specs.Coord.{CoordLawful, coord_allows, has_new, status_of, decision_of, closing_of, in_parts, closing_skeleton, closed, deciding}
+use Rattle.txn_model.specs.Coord.{CoordLawful, coord_allows, has_new, status_of, decision_of, closing_of, in_parts, closing_skeleton}
 use Rattle.txn_model.specs.Deadlines.{is_undriven, is_closed}
 use Rattle.txn_model.specs.Skeletons.{coord_skeleton, coord_skeletons, topic_skeletons}
-use Rattle.txn_model.specs.Sound.{ledger_file}
-use Rattle.txn_model.specs.Table.{TableState, Batch, in_coord, closing_entry, closing_batch, fenced_by, settled as with_batch}
+use Rattle.txn_model.specs.Table.{in_coord, closing_entry, closing_batch, fenced_by, settled as with_batch}
 use Rattle.txn_model.specs.Topic.{marker_of}
 use Rattle.txn_model.specs.World.{Lawful, log_of, part_skeletons}
 use Rattle.txn_model.proofs.GrantedEntries.{close_allowed}
 use Rattle.txn_model.proofs.LawfulAnswers.{closing_allowed, parts_are_named}
-use Rattle.txn_model.proofs.LawfulMarks.{some_decision}
 use Rattle.txn_model.proofs.Statuses.{Agrees, last_by, status_by, lawful_agrees}
 use Rattle.txn_engine.specs.Ending.{AreMarked}
 use Rattle.txn_engine.specs.Kept.{IsCoordinator, IsEngine}

@@ -1,16 +1,13 @@
 -- What an engine tells of a decision, and how it goes on through one.
-use Rattle.std.proofs.Common.{◌≡◌, ◌⊎◌, inl, inr, ℕ, ◌+◌, ◌==◌, ◌||◌, Bool, true, false, if◌then◌else◌, List, [], ◌∷◌, ◌++◌, length, Option, Some, None, Result, Ok, Err, IfErr, OnOk, OnErr, IsOk, MatchOption, IsTrue, option_map, refl, sym, ap, ◌∙◌, subst, arith}
+use Rattle.std.proofs.Common.{◌≡◌, ◌⊎◌, inl, inr, ℕ, ◌+◌, ◌==◌, ◌||◌, Bool, true, false, if◌then◌else◌, List, [], ◌∷◌, ◌++◌, length, Option, Some, None, Result, Ok, Err, IfErr, OnOk, IsOk, MatchOption, IsTrue, option_map, refl, sym, ap, ◌∙◌, subst, arith}
 use Rattle.std.specs.Option.{option_or}
 use Rattle.std.proofs.lemmas.Bool.Decides.{nat_tests}
 use Rattle.txn_base.specs.declared.core_entry.CoreEntry.{CoreEntry}
 use Rattle.txn_base.specs.declared.entry.CoordEntry.{CoordEntry}
 use Rattle.txn_base.specs.declared.limits.Limits.{Limits}
-use Rattle.txn_base.specs.declared.request.Request.{Request}
-use Rattle.txn_base.specs.declared.request.Request.TheVariants as request
 use Rattle.txn_base.specs.declared.reply.Reply.{Reply}
 use Rattle.txn_base.specs.declared.reply.Reply.TheVariants as reply
 use Rattle.txn_base.specs.declared.reply.Outcome.{Outcome}
-use Rattle.txn_base.specs.declared.reply.Refusal.{Refusal}
 use Rattle.txn_base.specs.declared.reply.Refusal.TheVariants as no
 use Rattle.txn_base.specs.declared.txn.TxnId.{TxnId}
 use Rattle.txn_base.specs.declared.txn.Decision.{Decision}
@@ -33,26 +30,25 @@ use Rattle.txn_model.specs.EarlyRows.{early_refusal}
 use Rattle.txn_model.specs.LateRows.{late_refusal, opposes}
 use Rattle.txn_model.specs.Replies.{is_fault}
 use Rattle.txn_model.specs.Skeletons.{coord_skeleton, coord_skeletons}
-use Rattle.txn_model.specs.Sound.{ledger_file}
 use Rattle.txn_model.specs.Table.{TableState, Batch, nothing, in_coord, decision_entry, decision_batch, settled as with_batch}
 use Rattle.txn_model.specs.World.{Lawful}
 use Rattle.txn_model.proofs.Grants.{decision_granted}
 use Rattle.txn_model.proofs.Prefixes.{map_append, first_of-append}
-use Rattle.txn_model.proofs.Statuses.{Agree, Agrees, last_by, status_by, open_means, lawful_agrees}
+use Rattle.txn_model.proofs.Statuses.{Agrees, last_by, status_by, open_means, lawful_agrees}
 use Rattle.txn_coordinator.proofs.Entry.{same_itself, in_parts-push}
 use Rattle.txn_engine.specs.Ending.{end_of, IsReady, IsGranted}
 use Rattle.txn_engine.specs.Kept.{IsEngine, IsCoordinator}
 use Rattle.txn_engine.specs.Refusals.{coord_refusal}
 use Rattle.txn_engine.specs.Table.{table_of, world_of}
-use Rattle.txn_engine.specs.Told.{MayTell, RoseFor, IsTellable, Goes}
+use Rattle.txn_engine.specs.Told.{MayTell, RoseFor, Goes}
 use Rattle.txn_engine.specs.View.{EngineView, IsWhole, IsTied, IsBacked, with_coord}
 use Rattle.txn_engine.proofs.Begun.{short_told, row_told, error_told, coord_fails, begun_short, kept_by}
 use Rattle.txn_engine.proofs.BegunGoes.{still_goes, error_goes, fault_refusal}
 use Rattle.txn_engine.proofs.Changed.{coord_added}
-use Rattle.txn_engine.proofs.Coordinators.{not_refused, logged_is, fenced_is, engine_with}
+use Rattle.txn_engine.proofs.Coordinators.{not_refused, logged_is, engine_with}
 use Rattle.txn_engine.proofs.Going.{coord_goes, goes_like}
 use Rattle.txn_engine.proofs.Rows.{stays}
-use Rattle.txn_engine.proofs.Whole.{whole_world, whole_table, world_is, table_is, told_from}
+use Rattle.txn_engine.proofs.Whole.{whole_world, whole_table, world_is, table_is}
 
 -- ---- The rows.
 
@@ -223,7 +219,6 @@ module _ (v : EngineView) (x : TxnId) (d : Decision) where
 module _ (v : EngineView) (is : IsEngine v) (whole : IsWhole v) (x : TxnId) (d : Decision) (fits : IsTxnId x) (result : Result Status CoordError) (c' : CoordView)
     (refused : MatchOption (decide_refusal v.coord x d) (MayFail result) (λ y. result ≡ Err y)) (repeated : decide_refusal v.coord x d ≡ None → is_open (status_in_view v.coord x) ≡ false → IsOk result)
     (now : OnOk result (c' ≡ decided v.coord x d)) (fault : result ≡ Err coord_error.Fault → c' ≡ fenced v.coord (decision_entry x d)) (same : IfErr result (λ e. (e ≡ coord_error.Fault → ⊥) → c' ≡ v.coord)) where
-
   abbrev pub u : EngineView
   u = with_coord v c'
 

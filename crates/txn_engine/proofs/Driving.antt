@@ -1,5 +1,5 @@
 -- How an engine drives a decided transaction to its end.
-use Rattle.std.proofs.Common.{◌≡◌, ◌⊎◌, inl, inr, ℕ, ◌+◌, ◌<◌, ◌≤◌, Bool, true, false, List, [], length, Option, Some, None, is_some, Result, Ok, Err, IsOk, IsErr, OnOk, OnErr, refl, sym, ap, ◌∙◌, subst, arith, codes}
+use Rattle.std.proofs.Common.{◌≡◌, ℕ, ◌+◌, ◌<◌, ◌≤◌, Bool, true, false, List, [], length, Some, None, is_some, Result, Ok, Err, IsOk, OnOk, refl, sym, ap, ◌∙◌, subst, arith, codes}
 use Rattle.std.proofs.Math.ListN.{get_or}
 use Rattle.txn_base.specs.declared.core_entry.CoreEntry.{CoreEntry}
 use Rattle.std.proofs.lemmas.List.{get_or_default}
@@ -9,7 +9,6 @@ use Rattle.txn_base.specs.declared.reply.Why.TheVariants as why
 use Rattle.txn_base.specs.declared.txn.TxnId.{TxnId}
 use Rattle.txn_base.specs.declared.txn.Decision.{Decision}
 use Rattle.txn_base.specs.declared.txn.Status.{Status}
-use Rattle.txn_coordinator.specs.View.{CoordView}
 use Rattle.txn_model.specs.Coord.{decision_of, closing_of, parts_of, closed, deciding}
 use Rattle.txn_model.specs.Drive.{MarksAll, StopsWithin, Drives, already, closes, close_fault, stops, ended}
 use Rattle.txn_model.specs.Names.{name_of}
@@ -18,8 +17,8 @@ use Rattle.txn_model.specs.Table.{TableState, closing_batch, fenced_by, settled 
 use Rattle.txn_wire.specs.Short.{IsPartName}
 use Rattle.txn_engine.specs.Kept.{IsEngine}
 use Rattle.txn_engine.specs.Table.{table_of}
-use Rattle.txn_engine.specs.Told.{RoseFor, Goes}
-use Rattle.txn_engine.specs.View.{EngineView, IsWhole, IsTied, IsBacked}
+use Rattle.txn_engine.specs.Told.{RoseFor}
+use Rattle.txn_engine.specs.View.{EngineView, IsWhole, IsTied}
 use Rattle.txn_engine.proofs.Closing.{closing_none, closing_is}
 use Rattle.txn_engine.proofs.Going.{rose_then}
 use Rattle.txn_engine.proofs.Marks.{name_here, name_form}

@@ -1,5 +1,5 @@
 -- What an engine tells of an end, and how it goes on through one.
-use Rattle.std.proofs.Common.{◌≡◌, inl, inr, ℕ, ◌==◌, Bool, true, false, List, [], ◌∷◌, Some, Result, Ok, Err, refl, sym, ap, ◌∙◌, subst}
+use Rattle.std.proofs.Common.{◌≡◌, inl, inr, ℕ, ◌==◌, true, false, List, [], ◌∷◌, Some, Result, Err, refl, sym, ap, ◌∙◌, subst}
 use Rattle.txn_base.specs.declared.limits.Limits.{Limits}
 use Rattle.txn_base.specs.declared.reply.Outcome.{Outcome}
 use Rattle.txn_base.specs.declared.reply.Refusal.{Refusal}
@@ -14,12 +14,12 @@ use Rattle.txn_base.specs.Disk.{Files}
 use Rattle.txn_coordinator.specs.declared.error.CoordError.{CoordError}
 use Rattle.txn_coordinator.specs.declared.error.CoordError.TheVariants as coord_error
 use Rattle.txn_model.specs.declared.world.World.{World}
-use Rattle.txn_model.specs.Answers.{Answers, early, granted, no_memory}
+use Rattle.txn_model.specs.Answers.{early, granted, no_memory}
 use Rattle.txn_model.specs.Drive.{StopsAt, recovery_fault, recovery_memory, marker_memory, marker_fault, StopsWithin, Drives, already, closes, close_fault, stops}
 use Rattle.txn_model.specs.EarlyRows.{early_refusal}
 use Rattle.txn_model.specs.Replies.{is_fault}
 use Rattle.txn_model.specs.Table.{TableState, decision_batch, settled as with_batch}
-use Rattle.txn_engine.specs.Ending.{end_of, IsSameBut, IsGranted}
+use Rattle.txn_engine.specs.Ending.{end_of, IsGranted}
 use Rattle.txn_engine.specs.Refusals.{coord_refusal}
 use Rattle.txn_engine.specs.Table.{table_of}
 use Rattle.txn_engine.specs.Told.{MayTell, RoseFor, Goes}
@@ -28,7 +28,6 @@ use Rattle.txn_engine.proofs.Begun.{short_told}
 use Rattle.txn_engine.proofs.BegunGoes.{fault_refusal}
 use Rattle.txn_engine.proofs.Decided.{at_once, end_succeeds}
 use Rattle.txn_engine.proofs.Going.{goes_like}
-use Rattle.txn_engine.proofs.Same.{same_table}
 
 -- ---- The same drive, where more counts rose.
 

@@ -1,5 +1,5 @@
 -- An engine that gives the parts of a transaction their markers, one after another.
-use Rattle.std.proofs.Common.{◌≡◌, ◌⊎◌, inl, inr, ℕ, zero, suc, ◌+◌, ◌-◌, ◌<◌, ◌≤◌, ◌↔◌, ◌==◌, not, Bool, true, false, if◌then◌else◌, cond, List, [], ◌∷◌, length, is_some, is_none, Result, Ok, Err, IsOk, IsErr, OnOk, OnErr, IfErr, IsTrue, MatchBool, refl, sym, ap, ◌∙◌, subst, arith, slice_index_or}
+use Rattle.std.proofs.Common.{◌≡◌, ◌⊎◌, inl, inr, ℕ, ◌+◌, ◌<◌, ◌≤◌, ◌↔◌, ◌==◌, not, Bool, true, false, if◌then◌else◌, List, length, is_some, is_none, Result, Ok, Err, IsOk, IsErr, OnOk, OnErr, IsTrue, MatchBool, refl, sym, ap, ◌∙◌, subst, arith, slice_index_or}
 use Rattle.std.specs.Int.{bit_at}
 use Rattle.std.proofs.lemmas.Bool.Decides.{nat_tests}
 use Rattle.txn_base.specs.declared.core_entry.CoreEntry.{CoreEntry}
@@ -12,7 +12,7 @@ use Rattle.txn_buffer.specs.View.{TopicView}
 use Rattle.txn_model.specs.Coord.{CoordLawful, in_parts, parts_of}
 use Rattle.txn_model.specs.Drive.{Rebuilds, MarksAll, StopsWithin, marker_fault}
 use Rattle.txn_model.specs.Skeletons.{coord_skeletons, topic_skeletons}
-use Rattle.txn_model.specs.Table.{TableState, is_fenced, marker_batch, marked, fenced_by}
+use Rattle.txn_model.specs.Table.{is_fenced, marker_batch, marked, fenced_by}
 use Rattle.txn_model.specs.Topic.{marker_of}
 use Rattle.txn_model.specs.World.{part_skeletons}
 use Rattle.txn_model.proofs.Named.{few_names}
@@ -21,7 +21,6 @@ use Rattle.txn_engine.specs.Kept.{IsEngine}
 use Rattle.txn_engine.specs.Table.{table_of, unrebuilt_from}
 use Rattle.txn_engine.specs.Told.{RoseFor, Goes}
 use Rattle.txn_engine.specs.View.{EngineView, IsWhole, IsTied, IsBacked}
-use Rattle.txn_engine.proofs.Decided.{from_ok}
 use Rattle.txn_engine.proofs.Going.{goes_still, goes_then, goes_like, rose_then}
 use Rattle.txn_engine.proofs.Lists.{none_unrebuilt}
 use Rattle.txn_engine.proofs.Marked.{from_ok_err}

@@ -1,5 +1,5 @@
 -- How an engine goes on where one of its topics gets a marker.
-use Rattle.std.proofs.Common.{◌≡◌, ◌⊎◌, inl, inr, ℕ, zero, suc, ◌+◌, ◌<◌, Bool, true, false, List, [], ◌∷◌, ◌++◌, length, All, Option, Some, None, is_some, is_none, Result, Ok, Err, IsOk, IsErr, OnOk, OnErr, IsTrue, refl, sym, ap, ◌∙◌, subst, arith}
+use Rattle.std.proofs.Common.{◌≡◌, ◌⊎◌, inl, inr, ℕ, zero, suc, ◌+◌, ◌<◌, true, List, [], ◌∷◌, ◌++◌, length, Option, Some, None, is_some, is_none, Result, Ok, Err, IsOk, IsErr, OnOk, OnErr, IsTrue, refl, sym, ap, ◌∙◌, subst, arith}
 use Rattle.std.proofs.Math.ListN.{get_or, set}
 use Rattle.txn_base.specs.declared.failed.Failed.{Failed}
 use Rattle.txn_base.specs.declared.file_id.FileId.{FileId}
@@ -15,7 +15,6 @@ use Rattle.txn_buffer.specs.View.{TopicView, batch_of, with_entries}
 use Rattle.txn_ledger.specs.Ledger.{IsFile, StandsIn}
 use Rattle.txn_model.specs.Coord.{decision_of}
 use Rattle.txn_model.specs.Skeletons.{coord_skeletons, topic_skeletons}
-use Rattle.txn_model.specs.Sound.{ledger_file}
 use Rattle.txn_model.specs.Table.{TableState, marker_batch, marked, fenced_by}
 use Rattle.txn_model.specs.Topic.{marker_of}
 use Rattle.txn_model.specs.World.{part_skeletons}
@@ -26,7 +25,7 @@ use Rattle.txn_engine.specs.Told.{RoseFor, Goes}
 use Rattle.txn_engine.specs.View.{EngineView, IsWhole, IsTied, IsBacked, with_topics, replaced}
 use Rattle.txn_engine.proofs.Decided.{on_ok, by_result}
 use Rattle.txn_engine.proofs.Going.{goes_still, topic_goes}
-use Rattle.txn_engine.proofs.Lists.{never_below, set_is, length_replaced, all_replaced, at_index}
+use Rattle.txn_engine.proofs.Lists.{never_below, set_is, all_replaced, at_index}
 use Rattle.txn_engine.proofs.Marks.{skeletons_at, stood_table, marked_table, marker_fenced, marker_allowed, marker_records}
 use Rattle.txn_engine.proofs.Published.{added_topic, fenced_topic, engine_topics, put_back}
 use Rattle.txn_engine.proofs.Reading.{IsAt, at_place, is_topic_at}
@@ -160,7 +159,7 @@ module _ (v : EngineView) (is : IsEngine v) (w : EngineView) (view : v ≡ w) (w
           let here : table_of v ≡ whole_table v = table_is v is whole tied in (
             ap (λ (s : TableState). is_none (marker_of (part_skeletons s.world (1 + j)) x)) here ∙ ap (λ k. is_none (marker_of k x)) (skeletons_at v is j below) ∙ ap is_none (at_marker None m),
             ap (λ (k : TopicView). table_of (with_topics v (replaced v.topics j k))) (e ∙ ap (λ (k : TopicView). topic.fenced k es) (sym at))
-            ∙ marker_fenced v is j below x d whole tied (at_marker None m) fits ∙ ap (λ (s : TableState). fenced_by (marker_batch s x d (1 + j)) (1 + j) s) (sym here),
+                ∙ marker_fenced v is j below x d whole tied (at_marker None m) fits ∙ ap (λ (s : TableState). fenced_by (marker_batch s x d (1 + j)) (1 + j) s) (sym here),
           )
 
       pub err_fenced : OnErr r ((is_none (marker_of (part_skeletons (table_of v).world (1 + j)) x) ≡ true) × (table_of u ≡ fenced_by (marker_batch (table_of v) x d (1 + j)) (1 + j) (table_of v)))

@@ -1,8 +1,7 @@
 -- The marker of a transaction in a topic, and the table then.
-use Rattle.std.proofs.Common.{◌≡◌, ◌⊎◌, inl, inr, ℕ, suc, ◌+◌, ◌-◌, ◌<◌, ◌≤◌, ◌==◌, ◌&&◌, not, nat_le, Bool, true, false, if◌then◌else◌, List, [], ◌∷◌, ◌++◌, length, Option, Some, None, is_some, is_none, All, IsTrue, refl, sym, ap, ◌∙◌, subst, arith, append-nil}
+use Rattle.std.proofs.Common.{◌≡◌, inl, ℕ, ◌+◌, ◌-◌, ◌<◌, ◌==◌, Bool, true, false, if◌then◌else◌, [], ◌∷◌, ◌++◌, length, Option, Some, None, is_some, refl, sym, ap, ◌∙◌, subst, arith}
 use Rattle.std.proofs.Math.ListN.{get_or}
 use Rattle.std.proofs.lemmas.Bool.Decides.{nat_tests}
-use Rattle.txn_base.specs.Decoded.{topic_entries}
 use Rattle.txn_base.specs.Content.{LedgerContent, settled, Appends, Backed}
 use Rattle.txn_base.specs.Disk.{Files, Since}
 use Rattle.txn_base.specs.Frames.{Batch as FrameBatch, records}
@@ -21,11 +20,11 @@ use Rattle.txn_model.specs.Coord.{decision_of}
 use Rattle.txn_model.specs.Names.{name_of}
 use Rattle.txn_model.specs.Skeletons.{coord_skeletons, topic_skeletons}
 use Rattle.txn_model.specs.Sound.{RecordsOf, IsBareRecord}
-use Rattle.txn_model.specs.Table.{TableState, Batch, nothing, in_topic, topic_marker, marker_batch, given_after, marked, fenced_by, settled as with_batch}
+use Rattle.txn_model.specs.Table.{Batch, nothing, in_topic, topic_marker, marker_batch, given_after, marked, fenced_by, settled as with_batch}
 use Rattle.txn_model.specs.Topic.{marker_of}
-use Rattle.txn_model.specs.Words.{nowhere, set_at}
-use Rattle.txn_model.specs.World.{Lawful, log_of, part_skeletons}
-use Rattle.txn_model.proofs.Grants.{Granted, topic_part}
+use Rattle.txn_model.specs.Words.{nowhere}
+use Rattle.txn_model.specs.World.{Lawful, part_skeletons}
+use Rattle.txn_model.proofs.Grants.{topic_part}
 use Rattle.txn_model.proofs.LawfulMarks.{marker_granted}
 use Rattle.txn_records.specs.Topics.{marker_of as marker_entry}
 use Rattle.txn_engine.specs.Kept.{IsEngine}
@@ -35,7 +34,7 @@ use Rattle.txn_engine.proofs.Bodies.{entries_back}
 use Rattle.txn_engine.proofs.Changed.{given_same, topic_added, topic_fenced}
 use Rattle.txn_engine.proofs.Lists.{front_at}
 use Rattle.txn_engine.proofs.TopicNames.{not_sub}
-use Rattle.txn_engine.proofs.Whole.{whole_world, whole_table, world_is, table_is}
+use Rattle.txn_engine.proofs.Whole.{whole_world, whole_table, world_is}
 use Rattle.txn_engine.proofs.Worlds.{some_topic, name_at_index, stands_settled}
 
 -- ---- The entry, and its record.

@@ -1,5 +1,5 @@
 -- What room that is reserved leaves as it was.
-use Rattle.std.proofs.Common.{◌≡◌, inl, ℕ, zero, suc, ◌+◌, ◌<◌, ◌≤◌, ◌^◌, ◌==◌, not, true, false, if◌then◌else◌, List, [], ◌∷◌, length, All, IsTrue, refl, sym, ap, ap₂, ◌∙◌, subst, arith}
+use Rattle.std.proofs.Common.{◌≡◌, inl, ℕ, zero, suc, ◌<◌, ◌≤◌, ◌^◌, ◌==◌, not, true, if◌then◌else◌, List, [], ◌∷◌, length, All, IsTrue, refl, sym, ap, ap₂, ◌∙◌, subst, arith}
 use Rattle.std.proofs.Math.ListN.{get_or}
 use Rattle.std.proofs.lemmas.List.Elements.{All-head, All-tail, All-cons, All-nil}
 use Rattle.txn_base.specs.declared.entry.TopicEntry.{TopicEntry}
@@ -10,7 +10,7 @@ use Rattle.txn_base.specs.declared.reply.Reply.TheVariants as reply
 use Rattle.txn_base.specs.declared.reply.Refusal.TheVariants as no
 use Rattle.txn_base.specs.Content.{Backed}
 use Rattle.txn_base.specs.Decoded.{coord_entries, topic_entries}
-use Rattle.txn_base.specs.Disk.{Files, Since}
+use Rattle.txn_base.specs.Disk.{Files}
 use Rattle.txn_base.proofs.Moments.{started}
 use Rattle.txn_base.specs.Limits.{InRange}
 use Rattle.txn_base.specs.Names.{is_topic_name}

@@ -27,7 +27,9 @@ use crate::engine::{COORDINATOR, Engine};
 use crate::publish::has_part;
 use crate::refusals::coord_refusal;
 use std::alloc::AllocError;
-use txn_base::{Decision, Disk, Failed, Outcome, Refusal, Reply, Status, Stuck, TextRoom, TxnId, Why};
+use txn_base::{
+    Decision, Disk, Failed, Outcome, Refusal, Reply, Status, Stuck, TextRoom, TxnId, Why,
+};
 use txn_buffer::Topic;
 use txn_coordinator::CoordError;
 use txn_ledger::Ledger;
@@ -59,7 +61,13 @@ impl Engine {
     }
 
     /// The same, where the memory of the line was taken.
-    fn decide_and_drive<D: Disk>(&mut self, disk: &mut D, txn: TxnId, decision: Decision, room: TextRoom) -> Reply
+    fn decide_and_drive<D: Disk>(
+        &mut self,
+        disk: &mut D,
+        txn: TxnId,
+        decision: Decision,
+        room: TextRoom,
+    ) -> Reply
         requires own { txn.most ≡ 0 }
         requires room { NAME ≤ room }
         requires ready { IsReady txn self.old }
@@ -80,7 +88,12 @@ impl Engine {
     }
 
     /// Logs the decision, where the transaction is open. Where it isn't refused, the transaction has this decision then.
-    fn decide<D: Disk>(&mut self, disk: &mut D, txn: TxnId, decision: Decision) -> Result<Status, CoordError>
+    fn decide<D: Disk>(
+        &mut self,
+        disk: &mut D,
+        txn: TxnId,
+        decision: Decision,
+    ) -> Result<Status, CoordError>
         requires own { txn.most ≡ 0 }
         requires whole { IsWhole self.old }
         requires backed { IsBacked (D.image disk.old) self.old }
@@ -97,7 +110,13 @@ impl Engine {
     }
 
     /// Gives each part of a decided transaction its marker, in order of number, and closes it.
-    fn drive<D: Disk>(&mut self, disk: &mut D, txn: TxnId, decision: Decision, room: TextRoom) -> Outcome
+    fn drive<D: Disk>(
+        &mut self,
+        disk: &mut D,
+        txn: TxnId,
+        decision: Decision,
+        room: TextRoom,
+    ) -> Outcome
         requires decided { decision_of (coord_skeletons self.old.coord.front) txn ≡ Some decision }
         requires room { NAME ≤ room }
         requires ready { IsReady txn self.old }
@@ -146,7 +165,12 @@ impl Engine {
 
     /// Gives each part of a transaction its marker, in order of number, but for those that have one. Err tells the index of
     /// the topic whose append failed.
-    fn mark_all<D: Disk>(&mut self, disk: &mut D, txn: TxnId, decision: Decision) -> Result<(), usize>
+    fn mark_all<D: Disk>(
+        &mut self,
+        disk: &mut D,
+        txn: TxnId,
+        decision: Decision,
+    ) -> Result<(), usize>
         requires decided { decision_of (coord_skeletons self.old.coord.front) txn ≡ Some decision }
         requires ready { AreReady txn self.old (length self.old.topics) }
         requires whole { IsWhole self.old }
@@ -171,7 +195,13 @@ impl Engine {
     }
 
     /// Gives the topic at an index its marker, where it has none.
-    fn mark<D: Disk>(&mut self, disk: &mut D, at: usize, txn: TxnId, decision: Decision) -> Result<(), Failed>
+    fn mark<D: Disk>(
+        &mut self,
+        disk: &mut D,
+        at: usize,
+        txn: TxnId,
+        decision: Decision,
+    ) -> Result<(), Failed>
         requires below { at < length self.old.topics }
         requires decided { decision_of (coord_skeletons self.old.coord.front) txn ≡ Some decision }
         requires reserved { (t : TopicView) → (slice_index_or self.old.topics at t).reserved ≡ 1 }
@@ -225,7 +255,12 @@ impl Engine {
 }
 
 /// Gives a topic its marker of a transaction, where it has none.
-fn mark_topic<D: Disk>(topic: &mut Topic<Ledger>, disk: &mut D, txn: TxnId, decision: Decision) -> Result<(), Failed>
+fn mark_topic<D: Disk>(
+    topic: &mut Topic<Ledger>,
+    disk: &mut D,
+    txn: TxnId,
+    decision: Decision,
+) -> Result<(), Failed>
     requires whole { IsTrue topic.old.whole }
     requires reserved { topic.old.reserved ≡ 1 }
     requires settled { topic.old.content.standing ≡ settled }

@@ -1,5 +1,4 @@
-use Rattle.std.proofs.Common.{rules, sym, subst}
-use Rattle.txn_engine.specs.View.{IsWhole}
+use Rattle.std.proofs.Common.{rules}
 use Rattle.txn_engine.proofs.Decided.{engine_clause, decided_clause, whole_clause, ready_clause, granted_clause, settled_clause, refused_clause, goes_clause}
 use Rattle.txn_engine.proofs.engine.Engine.decide.Goals as goal
 

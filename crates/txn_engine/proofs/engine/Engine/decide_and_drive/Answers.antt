@@ -5,7 +5,7 @@ use Rattle.txn_engine.specs.Told.{IsTellable}
 use Rattle.txn_engine.proofs.AtView.{tell_at}
 use Rattle.txn_engine.proofs.Begun.{tellable_refusal}
 use Rattle.txn_engine.proofs.Driving.{rose_later}
-use Rattle.txn_engine.proofs.Ended.{ended_told, refused_goes}
+use Rattle.txn_engine.proofs.Ended.{ended_told}
 use Rattle.txn_engine.proofs.Going.{goes_then}
 use Rattle.txn_engine.proofs.engine.Engine.decide_and_drive.Goals as goal
 

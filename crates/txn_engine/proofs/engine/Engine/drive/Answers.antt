@@ -1,4 +1,4 @@
-use Rattle.std.proofs.Common.{rules, ◌≡◌, true, false, sym, ap, ◌∙◌, subst, IsErr, not, refl}
+use Rattle.std.proofs.Common.{◌≡◌, true, false, sym, ap, ◌∙◌, subst, IsErr, not}
 use Rattle.txn_base.specs.declared.reply.Outcome.{Outcome}
 use Rattle.txn_model.specs.Replies.{is_stopped}
 use Rattle.txn_engine.specs.Ending.{IsTellableEnd}

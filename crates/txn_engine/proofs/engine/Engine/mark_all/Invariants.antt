@@ -1,4 +1,4 @@
-use Rattle.std.proofs.Common.{ℕ, ◌-◌, length}
+use Rattle.std.proofs.Common.{◌-◌, length}
 use Rattle.txn_engine.proofs.MarkLoop.{MarksUpTo}
 use Rattle.txn_engine.proofs.engine.Engine.mark_all.Given as goal
 

@@ -1,7 +1,7 @@
-use Rattle.std.proofs.Common.{rules, subst, ◌∙◌}
+use Rattle.std.proofs.Common.{subst, ◌∙◌}
 use Rattle.txn_engine.specs.Kept.{IsEngine}
-use Rattle.txn_engine.proofs.MarkLoop.{parts_at, below_at, past_at}
-use Rattle.txn_engine.proofs.Reserved.{reserves_start, reserves_skip, reserves_more, reserves_at, close_same, close_engine, close_ready}
+use Rattle.txn_engine.proofs.MarkLoop.{parts_at}
+use Rattle.txn_engine.proofs.Reserved.{reserves_start, reserves_skip, reserves_more, reserves_at}
 use Rattle.txn_engine.proofs.Same.{same_then}
 use Rattle.txn_engine.proofs.engine.Engine.reserve.Goals as goal
 use Rattle.txn_engine.proofs.engine.Engine.reserve.Goals.{then-has_part+in_ok-reserve_at, else-has_part}
