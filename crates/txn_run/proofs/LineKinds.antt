@@ -26,8 +26,8 @@ pub asked_here : (r : Request) → is_answered r ≡ true → AsksForSome r → 
 asked_here (request.New timeout) is some = tt
 asked_here (request.Add x part) is some = tt
 asked_here (request.Publish topic who bodies) is some = some
-asked_here (request.Commit x) is some = absurd (true≢false (sym is))
-asked_here (request.Abort x) is some = absurd (true≢false (sym is))
+asked_here (request.Commit x) is some = tt
+asked_here (request.Abort x) is some = tt
 asked_here (request.Status x) is some = tt
 asked_here (request.Read topic first max) is some = some
 asked_here (request.Ack sub x places) is some = absurd (true≢false (sym is))

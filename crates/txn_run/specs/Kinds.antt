@@ -11,8 +11,8 @@ abbrev pub is_answered : Request → Bool
 is_answered (request.New timeout) = true
 is_answered (request.Add x part) = true
 is_answered (request.Publish topic who bodies) = true
-is_answered (request.Commit x) = false
-is_answered (request.Abort x) = false
+is_answered (request.Commit x) = true
+is_answered (request.Abort x) = true
 is_answered (request.Status x) = true
 is_answered (request.Read topic first max) = true
 is_answered _ = false

@@ -41,6 +41,8 @@ fn is_answered(request: &Request) -> bool
         Request::New { .. }
         | Request::Add { .. }
         | Request::Publish { .. }
+        | Request::Commit { .. }
+        | Request::Abort { .. }
         | Request::Status { .. }
         | Request::Read { .. } => true,
         _ => false,
