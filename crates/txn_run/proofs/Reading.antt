@@ -1,5 +1,5 @@
 -- A run that takes its last bytes.
-use Rattle.std.proofs.Common.{◌≡◌, ℕ, ◌+◌, ◌≤◌, zero, suc, List, [], ◌++◌, length, take, Option, refl, ap₂, ◌∙◌, subst, append-nil, length-append, arith}
+use Rattle.std.proofs.Common.{◌≡◌, ℕ, ◌+◌, ◌≤◌, zero, suc, List, [], ◌++◌, length, take, Option, refl, sym, ap, ap₂, ◌∙◌, subst, append-nil, length-append, arith}
 use Rattle.std.specs.Io.KnownBytes.{Consumes, Keeps}
 use Rattle.std.proofs.KnownBytes.{Consumes-trans, Consumes-kept}
 use Rattle.txn_base.specs.declared.limits.Limits.{Limits}
@@ -42,3 +42,11 @@ some_taken taken bytes long some = omega (arith, long, above_none taken some)
 
 pub some_more : (taken n : ℕ) (bytes : List ℕ) → length bytes ≡ taken + n → (n ≡ 0 → ⊥) → 1 ≤ length bytes
 some_more taken n bytes long some = omega (arith, long, above_none n some)
+
+-- ---- nothing was taken
+
+pub none_so_far : (taken : ℕ) (bytes : List ℕ) → length bytes ≡ taken → bytes ≡ [] → taken ≡ 0
+none_so_far taken bytes long none = sym long ∙ ap length none
+
+pub never_none : (taken n : ℕ) (bytes : List ℕ) → length bytes ≡ taken + n → (n ≡ 0 → ⊥) → bytes ≡ [] → ⊥
+never_none taken n bytes long some none = none_taken taken n some (sym long ∙ ap length none)

@@ -294,6 +294,7 @@ pub fn finish<D: Disk, O: Sink, K: Clock, L: ledger::Ledger>(
     ensures sink { result ≡ Err stop.Sink → D.tells → IsTied engine.old → (first : Standing) (old : Option (List ℕ)) (fed : List ℕ) → Going limits.now first old fed pending.now (standing engine.old (K.moments clock.old) (D.faults disk.old) (D.part_faults disk.old)) (O.held sink.old) → Broken limits.now first old (lines_of fed) (standing engine.new (K.moments clock.new) (D.faults disk.new) (D.part_faults disk.new)) (O.held sink.new) }
     ensures disk { result ≡ Err stop.Disk → D.tells → IsTied engine.old → (first : Standing) (old : Option (List ℕ)) (fed : List ℕ) → Going limits.now first old fed pending.now (standing engine.old (K.moments clock.old) (D.faults disk.old) (D.part_faults disk.old)) (O.held sink.old) → Stopped limits.now first old (lines_of fed) (standing engine.new (K.moments clock.new) (D.faults disk.new) (D.part_faults disk.new)) (O.held sink.new) }
     ensures stopped { result ≡ Err stop.Disk → (Stands limits.now.line pending.now [] → ⊥) × EndsWithFault (O.held sink.old) (O.held sink.new) }
+    ensures clock { Stands limits.now.line pending.now [] → clock.new ≡ clock.old }
     ensures names { engine.new.names ≡ engine.old.names }
     ensures limits { engine.new.limits ≡ engine.old.limits }
     ensures engine { IsEngine engine.new }

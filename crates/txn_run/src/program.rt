@@ -59,7 +59,7 @@ pub fn run<D: Disk, I: Source, O: Sink, K: Clock>(
     ensures damaged { (file : FileId) (entry : ℕ) → result ≡ status.Damaged file entry → IsPartFile 1 file × (D.tells → IsFirstDamage 1 (D.seen disk.old) file entry) }
     ensures quiet { IsQuiet result → (source.new ≡ source.old) × (sink.new ≡ sink.old) }
     ensures stopped { result ≡ status.DiskFault → ((source.new ≡ source.old) × (sink.new ≡ sink.old) × (clock.new ≡ clock.old)) ⊎ (FaultIsLast (I.left source.old) (I.left source.new) (O.held sink.old) (O.held sink.new) × (D.tells → AreParts 1 (D.seen disk.old))) }
-    ensures taken { (taken : List ℕ) × Consumes (I.left source.old) (I.left source.new) taken × (length taken ≤ limits.now.input) × (result ≡ status.TooMuch → length taken ≡ limits.now.input) }
+    ensures taken { (taken : List ℕ) × Consumes (I.left source.old) (I.left source.new) taken × (length taken ≤ limits.now.input) × (result ≡ status.TooMuch → length taken ≡ limits.now.input) × (taken ≡ [] → clock.new ≡ clock.old) }
     ensures clock { IsUnstarted result → clock.new ≡ clock.old }
     ensures read { result ≡ status.ReadFault → Rose (I.faults source.old) (I.faults source.new) }
     ensures write { result ≡ status.WriteFault → Rose (O.faults sink.old) (O.faults sink.new) }
@@ -104,7 +104,7 @@ fn with_count<L: ledger::Ledger, D: Disk, I: Source, O: Sink, K: Clock>(
     ensures damaged { (file : FileId) (entry : ℕ) → result ≡ status.Damaged file entry → IsPartFile (length names.items) file × (D.tells → IsFirstDamage (length names.items) (D.seen disk.old) file entry) }
     ensures quiet { IsQuiet result → (source.new ≡ source.old) × (sink.new ≡ sink.old) }
     ensures stopped { result ≡ status.DiskFault → ((source.new ≡ source.old) × (sink.new ≡ sink.old) × (clock.new ≡ clock.old)) ⊎ (FaultIsLast (I.left source.old) (I.left source.new) (O.held sink.old) (O.held sink.new) × (D.tells → AreParts (length names.items) (D.seen disk.old))) }
-    ensures taken { (taken : List ℕ) × Consumes (I.left source.old) (I.left source.new) taken × (length taken ≤ limits.now.input) × (result ≡ status.TooMuch → length taken ≡ limits.now.input) }
+    ensures taken { (taken : List ℕ) × Consumes (I.left source.old) (I.left source.new) taken × (length taken ≤ limits.now.input) × (result ≡ status.TooMuch → length taken ≡ limits.now.input) × (taken ≡ [] → clock.new ≡ clock.old) }
     ensures clock { IsUnstarted result → clock.new ≡ clock.old }
     ensures read { result ≡ status.ReadFault → Rose (I.faults source.old) (I.faults source.new) }
     ensures write { result ≡ status.WriteFault → Rose (O.faults sink.old) (O.faults sink.new) }
@@ -135,7 +135,7 @@ fn run_over<L: ledger::Ledger, D: Disk, I: Source, O: Sink, K: Clock>(
     ensures damaged { (file : FileId) (entry : ℕ) → result ≡ status.Damaged file entry → IsPartFile (length names.items) file × (D.tells → IsFirstDamage (length names.items) (D.seen disk.old) file entry) }
     ensures quiet { IsQuiet result → (source.new ≡ source.old) × (sink.new ≡ sink.old) }
     ensures stopped { result ≡ status.DiskFault → ((source.new ≡ source.old) × (sink.new ≡ sink.old) × (clock.new ≡ clock.old)) ⊎ (FaultIsLast (I.left source.old) (I.left source.new) (O.held sink.old) (O.held sink.new) × (D.tells → AreParts (length names.items) (D.seen disk.old))) }
-    ensures taken { (taken : List ℕ) × Consumes (I.left source.old) (I.left source.new) taken × (length taken ≤ limits.now.input) × (result ≡ status.TooMuch → length taken ≡ limits.now.input) }
+    ensures taken { (taken : List ℕ) × Consumes (I.left source.old) (I.left source.new) taken × (length taken ≤ limits.now.input) × (result ≡ status.TooMuch → length taken ≡ limits.now.input) × (taken ≡ [] → clock.new ≡ clock.old) }
     ensures clock { IsUnstarted result → clock.new ≡ clock.old }
     ensures read { result ≡ status.ReadFault → Rose (I.faults source.old) (I.faults source.new) }
     ensures write { result ≡ status.WriteFault → Rose (O.faults sink.old) (O.faults sink.new) }
@@ -193,7 +193,7 @@ fn run_in<L: ledger::Ledger, D: Disk, I: Source, O: Sink, K: Clock>(
     requires engine { IsEngine engine.old }
     requires backed { IsBacked (D.image disk.old) engine.old }
     ensures answers { D.tells → IsTied engine.old → (taken : List ℕ) × Consumes (I.left source.old) (I.left source.new) taken × Ended result limits.now (standing engine.old (K.moments clock.old) (D.faults disk.old) (D.part_faults disk.old)) (O.held sink.old) taken (standing engine.new (K.moments clock.new) (D.faults disk.new) (D.part_faults disk.new)) (O.held sink.new) (I.left source.new) }
-    ensures taken { (taken : List ℕ) × Consumes (I.left source.old) (I.left source.new) taken × (length taken ≤ limits.now.input) × (result ≡ status.TooMuch → length taken ≡ limits.now.input) }
+    ensures taken { (taken : List ℕ) × Consumes (I.left source.old) (I.left source.new) taken × (length taken ≤ limits.now.input) × (result ≡ status.TooMuch → length taken ≡ limits.now.input) × (taken ≡ [] → clock.new ≡ clock.old) }
     ensures stopped { result ≡ status.DiskFault → FaultIsLast (I.left source.old) (I.left source.new) (O.held sink.old) (O.held sink.new) }
     ensures statuses { IsRan result }
     ensures names { engine.new.names ≡ engine.old.names }

@@ -20,3 +20,6 @@ returns-then-is_empty-clause-ok g c ok told tied first old fed so = told_all _ f
 
 pub returns-clause-stopped : goal.returns-clause-stopped
 returns-clause-stopped g c stopped = ((λ none. true≢false (sym (c.is_empty.ensures _ [] none) ∙ c.if-is_empty.false)), c.answer_line.ensures.stopped stopped)
+
+pub returns-clause-clock : goal.returns-clause-clock
+returns-clause-clock g c none = absurd (true≢false (sym (c.is_empty.ensures _ [] none) ∙ c.if-is_empty.false))

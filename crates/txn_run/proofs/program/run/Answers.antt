@@ -1,8 +1,9 @@
 use Rattle.std.proofs.Common.{◌≡◌, ⊎_elim, inl, inr, ℕ, List, [], ◌∷◌, subst, length, ap}
 use Rattle.txn_model.specs.declared.world.World.{World}
-use Rattle.txn_engine.specs.Above.{KeepsAbove}
+use Rattle.txn_engine.specs.Above.{StandsAbove, KeepsAbove}
 use Rattle.txn_engine.specs.Opening.{AreParts, IsPartFile, IsFirstDamage}
 use Rattle.txn_base.specs.Disk.{Since}
+use Rattle.txn_base.proofs.Moments.{at_any_moment}
 use Rattle.txn_run.specs.Run.{RunOf}
 use Rattle.txn_run.specs.Words.{command_of}
 use Rattle.txn_run.proofs.Running.{named_as, run_named}
@@ -30,3 +31,10 @@ pub returns-in-Ok-clause-stopped : goal.returns-in-Ok-clause-stopped
 returns-in-Ok-clause-stopped g c is =
     let one : length c.in-Ok.names.items ≡ 1 = ap length c.in-Ok.ensures.words.1 in
     ⊎_elim (λ still. inl still) (λ last. inr (last.0, λ told. subst (λ (n : ℕ). AreParts n (g.D.Disk.seen c.args.disk.now)) one (last.1 told))) (c.with_count.ensures.stopped is)
+
+pub returns-in-Ok-clause-always : goal.returns-in-Ok-clause-always
+returns-in-Ok-clause-always g c name command floor before image left =
+    let named = c.in-Ok.ensures.words in
+    let since = subst (λ (ns : List (List ℕ)). Since g.D.Disk.moment g.D.Disk.image g.D.Disk.left_since (KeepsAbove ns) c.args.disk.now c.with_count.new.disk) (named_as (command_of c.args.words.now) c.in-Ok.names.items named.0 name named.1 named.2 command) c.with_count.ensures.images in
+    at_any_moment g.D.Disk.moment g.D.Disk.image g.D.Disk.left_since (KeepsAbove (name ∷ [])) (StandsAbove (name ∷ []) floor) c.args.disk.now c.with_count.new.disk since
+    (g.met.D.Disk.only_now c.args.disk.now) before (λ d e at keeps. keeps floor (before d at)) image left

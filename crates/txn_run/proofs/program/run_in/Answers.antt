@@ -1,8 +1,8 @@
-use Rattle.std.proofs.Common.{◌≡◌, ◌≤◌, ◌+◌, take, length, arith, length-take, refl, ap, Err, ◌∙◌}
+use Rattle.std.proofs.Common.{◌≡◌, ◌≤◌, ◌+◌, [], take, length, arith, length-take, refl, ap, Err, ◌∙◌}
 use Rattle.std.proofs.KnownBytes.{Consumes-kept}
 use Rattle.txn_run.proofs.Feeding.{reads_more, reads_broken, reads_stopped}
 use Rattle.txn_run.proofs.Keeping.{keeps_then, counts_then, counts_none}
-use Rattle.txn_run.proofs.Reading.{reads_kept, reads_end, came_none, came_more, none_taken, some_taken, some_more}
+use Rattle.txn_run.proofs.Reading.{reads_kept, reads_end, came_none, came_more, none_taken, some_taken, some_more, none_so_far, never_none}
 use Rattle.txn_run.proofs.Telling.{grows_then, ends_after}
 use Rattle.txn_run.proofs.program.run_in.Goals as goal
 
@@ -14,7 +14,7 @@ returns-in-Err-clause-answers g c told tied =
 pub returns-in-Err-clause-taken : goal.returns-in-Err-clause-taken
 returns-in-Err-clause-taken g c =
     let so = c.loop-taken.invariant.came in
-    (so.0, Consumes-kept _ _ _ so.0 so.1 c.in-Err.ensures.bytes, omega (arith, so.2, c.loop-taken.invariant.within), λ is. cc)
+    (so.0, Consumes-kept _ _ _ so.0 so.1 c.in-Err.ensures.bytes, omega (arith, so.2, c.loop-taken.invariant.within), λ is. cc, λ e. c.loop-taken.invariant.clock (none_so_far c.loop-taken.taken so.0 so.2 e))
 
 pub returns-in-Ok-finish-clause-answers : goal.returns-in-Ok-finish-clause-answers
 returns-in-Ok-finish-clause-answers g c told tied =
@@ -55,6 +55,7 @@ loop-taken-preserved g c =
       writes = omega (arith, was.writes, now.writes_later);
       grown = grows_then _ _ _ was.grown now.grown;
       fresh = λ none. absurd (none_taken c.loop-taken.taken c.in-Ok.count c.if-count-eq0.false none);
+      clock = λ none. absurd (none_taken c.loop-taken.taken c.in-Ok.count c.if-count-eq0.false none);
       whole = now.whole;
       names = now.names ∙ was.names;
       limits = now.limits ∙ was.limits;
@@ -80,7 +81,7 @@ returns-in-Err-Sink-feed-clause-taken g c =
     let long : length bytes ≡ c.in-Ok.count = omega (arith, length-take c.in-Ok.count c.take_into.new.chunk, c.in-Ok.ensures.bound, c.min-most.ensures, c.take_into.auto.chunk) in
     let was = c.loop-taken.invariant in
     let all = came_more _ _ _ was.came.0 bytes c.loop-taken.taken c.in-Ok.count was.came.1 was.came.2 c.in-Ok.ensures.bytes.0 long in
-    (all.0, all.1, omega (arith, all.2, c.in-Ok.ensures.bound, c.min-most.ensures), λ is. cc)
+    (all.0, all.1, omega (arith, all.2, c.in-Ok.ensures.bound, c.min-most.ensures), λ is. cc, λ e. absurd (never_none c.loop-taken.taken c.in-Ok.count all.0 all.2 c.if-count-eq0.false e))
 
 pub returns-in-Err-Sink-feed-clause-images : goal.returns-in-Err-Sink-feed-clause-images
 returns-in-Err-Sink-feed-clause-images g c = keeps_then g.D.Disk.moment g.D.Disk.image g.D.Disk.left_since _ _ c.args.engine.now.names c.loop-taken.engine.names c.args.disk.now c.loop-taken.disk c.feed.new.disk c.loop-taken.invariant.names c.loop-taken.invariant.tied c.loop-taken.invariant.images c.in-Err-Sink-feed.ensures.images
@@ -98,7 +99,7 @@ returns-in-Err-Disk-feed-clause-taken g c =
     let long : length bytes ≡ c.in-Ok.count = omega (arith, length-take c.in-Ok.count c.take_into.new.chunk, c.in-Ok.ensures.bound, c.min-most.ensures, c.take_into.auto.chunk) in
     let was = c.loop-taken.invariant in
     let all = came_more _ _ _ was.came.0 bytes c.loop-taken.taken c.in-Ok.count was.came.1 was.came.2 c.in-Ok.ensures.bytes.0 long in
-    (all.0, all.1, omega (arith, all.2, c.in-Ok.ensures.bound, c.min-most.ensures), λ is. cc)
+    (all.0, all.1, omega (arith, all.2, c.in-Ok.ensures.bound, c.min-most.ensures), λ is. cc, λ e. absurd (never_none c.loop-taken.taken c.in-Ok.count all.0 all.2 c.if-count-eq0.false e))
 
 pub returns-in-Err-Disk-feed-clause-images : goal.returns-in-Err-Disk-feed-clause-images
 returns-in-Err-Disk-feed-clause-images g c = keeps_then g.D.Disk.moment g.D.Disk.image g.D.Disk.left_since _ _ c.args.engine.now.names c.loop-taken.engine.names c.args.disk.now c.loop-taken.disk c.feed.new.disk c.loop-taken.invariant.names c.loop-taken.invariant.tied c.loop-taken.invariant.images c.in-Err-Disk-feed.ensures.images
@@ -111,7 +112,8 @@ returns-clause-answers g c told tied =
 pub returns-in-Err-Disk-clause-taken : goal.returns-in-Err-Disk-clause-taken
 returns-in-Err-Disk-clause-taken g c =
     let so = c.loop-taken.invariant.came in
-    (so.0, came_none _ _ _ so.0 c.take_into.new.chunk c.in-Ok.count c.if-count-eq0.true so.1 c.in-Ok.ensures.bytes.0, omega (arith, so.2, c.loop-taken.invariant.within), λ is. cc)
+    let none = λ (e : so.0 ≡ []). none_so_far c.loop-taken.taken so.0 so.2 e in
+    (so.0, came_none _ _ _ so.0 c.take_into.new.chunk c.in-Ok.count c.if-count-eq0.true so.1 c.in-Ok.ensures.bytes.0, omega (arith, so.2, c.loop-taken.invariant.within), λ is. cc, λ e. c.in-Err-Disk.ensures.clock (c.loop-taken.invariant.fresh (none e)) ∙ c.loop-taken.invariant.clock (none e))
 
 pub returns-in-Err-Disk-clause-stopped : goal.returns-in-Err-Disk-clause-stopped
 returns-in-Err-Disk-clause-stopped g c is =
@@ -136,3 +138,20 @@ returns-in-Err-Disk-feed-clause-stopped g c is =
       came = all.1;
       told = ends_after _ _ _ was.grown (c.in-Err-Disk-feed.ensures.stopped (ap Err c.in-Err-Disk-feed.field-0-is));
     }
+
+pub returns-in-Ok-finish-clause-taken : goal.returns-in-Ok-finish-clause-taken
+returns-in-Ok-finish-clause-taken g c =
+    let so = c.loop-taken.invariant.came in
+    let none = λ (e : so.0 ≡ []). none_so_far c.loop-taken.taken so.0 so.2 e in
+    (so.0, came_none _ _ _ so.0 c.take_into.new.chunk c.in-Ok.count c.if-count-eq0.true so.1 c.in-Ok.ensures.bytes.0, omega (arith, so.2, c.loop-taken.invariant.within), λ is. cc, λ e. c.in-Ok-finish.ensures.clock (c.loop-taken.invariant.fresh (none e)) ∙ c.loop-taken.invariant.clock (none e))
+
+pub returns-in-Err-Sink-clause-taken : goal.returns-in-Err-Sink-clause-taken
+returns-in-Err-Sink-clause-taken g c =
+    let so = c.loop-taken.invariant.came in
+    let none = λ (e : so.0 ≡ []). none_so_far c.loop-taken.taken so.0 so.2 e in
+    (so.0, came_none _ _ _ so.0 c.take_into.new.chunk c.in-Ok.count c.if-count-eq0.true so.1 c.in-Ok.ensures.bytes.0, omega (arith, so.2, c.loop-taken.invariant.within), λ is. cc, λ e. c.in-Err-Sink.ensures.clock (c.loop-taken.invariant.fresh (none e)) ∙ c.loop-taken.invariant.clock (none e))
+
+pub returns-clause-taken : goal.returns-clause-taken
+returns-clause-taken g c =
+    let so = c.loop-taken.invariant.came in
+    (so.0, so.1, omega (arith, so.2, c.loop-taken.invariant.within), λ is. omega (arith, so.2, c.loop-taken.invariant.within, c.loop-taken-test.false), λ e. c.loop-taken.invariant.clock (none_so_far c.loop-taken.taken so.0 so.2 e))

@@ -20,6 +20,7 @@ invariant-loop-taken g l = record {
   writes : g.O.Sink.faults l.fn.sink ≤ g.O.Sink.faults l.sink;
   grown : Grows (g.O.Sink.held l.fn.sink) (g.O.Sink.held l.sink);
   fresh : l.taken ≡ 0 → Stands l.limits.line l.pending [];
+  clock : l.taken ≡ 0 → l.clock ≡ l.fn.clock;
   whole : IsWhole l.engine;
   names : l.engine.names ≡ l.fn.engine.names;
   limits : l.engine.limits ≡ l.fn.engine.limits;
