@@ -4,16 +4,14 @@ ghost use Rattle.txn_base.specs.Content.{Backed, settled};
 ghost use Rattle.txn_base.specs.Limits.{InRange};
 ghost use Rattle.txn_ledger.specs.Ledger.{StandsIn};
 
-use crate::*;
 use std::alloc::{AllocError, Global};
 use std::marker::Brand;
 use std::sync::ledger::{self, Blank};
-use txn_base::{Disk, FileId, Limits, PartState, Status, Steps, TxnId, What};
+use txn_base::{Disk, Limits, PartState, Status, Steps, TxnId, What};
 use txn_coordinator::{CoordError, Coordinator};
+use txn_fixtures::{LOG, with_window};
 use txn_ledger::{Ledger, RecordLog};
 use txn_memdisk::MemDisk;
-
-const LOG: FileId = FileId { part: 0, row: 2 };
 
 const FIRST: TxnId = TxnId { most: 0, least: 0 };
 

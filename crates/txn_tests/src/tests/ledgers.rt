@@ -1,12 +1,12 @@
 //! Ledgers over files in memory.
 ghost use Rattle.std.specs.Prelude.{◌≡◌};
 
-use super::A;
-use crate::*;
+use crate::record_at;
 use std::alloc::{AllocError, Global};
 use std::marker::Brand;
 use std::sync::ledger::{self, Blank};
 use txn_base::{Bytes, Steps};
+use txn_fixtures::{A, TOPIC, disk_with};
 use txn_ledger::{GetError, Ledger, OpenError, RecordLog};
 use txn_memdisk::{FaultAt, MemDisk, Op};
 

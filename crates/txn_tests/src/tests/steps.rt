@@ -3,17 +3,15 @@ ghost use Rattle.std.specs.Prelude.{◌≡◌, IfSome};
 ghost use Rattle.txn_base.specs.Content.{Backed, looked_at};
 ghost use Rattle.txn_ledger.specs.Ledger.{StandsIn};
 
-use crate::*;
 use std::alloc::{AllocError, Global};
 use std::marker::Brand;
 use std::sync::ledger::{self, Blank};
 use txn_base::{Decision, Disk, FileId, Limits, MendError, PartState, Progress, Steps, TxnId};
 use txn_buffer::Topic;
 use txn_coordinator::Coordinator;
+use txn_fixtures::{LOG, TOPIC, log_file, topic_file};
 use txn_ledger::{Ledger, RecordLog};
 use txn_memdisk::{FaultAt, MemDisk, Op};
-
-const LOG: FileId = FileId { part: 0, row: 2 };
 
 const FIRST: TxnId = TxnId { most: 0, least: 0 };
 

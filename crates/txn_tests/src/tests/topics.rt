@@ -4,12 +4,12 @@ ghost use Rattle.txn_base.specs.Content.{Backed, looked_at};
 ghost use Rattle.txn_base.specs.Limits.{InRange};
 ghost use Rattle.txn_ledger.specs.Ledger.{StandsIn};
 
-use crate::*;
 use std::alloc::{AllocError, Global};
 use std::marker::Brand;
 use std::sync::ledger::{self, Blank};
 use txn_base::{Bytes, Decision, Disk, Limits, MendError, PartState, Progress, Steps, TxnId};
 use txn_buffer::Topic;
+use txn_fixtures::{Short, TOPIC, disk_with, topic_file};
 use txn_ledger::{Ledger, RecordLog};
 use txn_memdisk::MemDisk;
 

@@ -1,8 +1,9 @@
 //! How much a read gives, and how much is replayed at a time.
 use super::READ;
-use crate::*;
+use crate::run_lines;
 use std::alloc::AllocError;
 use txn_base::Limits;
+use txn_fixtures::{with_reads, with_step};
 use txn_memdisk::MemDisk;
 
 const INPUT: &str = r#"{"do":"publish","topic":"orders","data":["abc","de","f"]}

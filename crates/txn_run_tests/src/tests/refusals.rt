@@ -1,7 +1,8 @@
 //! Lines that are refused, and leave everything as it was.
-use crate::*;
+use crate::run_lines;
 use std::alloc::AllocError;
 use txn_base::Limits;
+use txn_fixtures::TOPIC;
 use txn_memdisk::MemDisk;
 
 // Lines that are no form, or of one that isn't answered here, and names that no part has.

@@ -1,8 +1,9 @@
 //! Stops of the machine inside and after an append.
-use super::{A, PUBLISH_A, READ};
-use crate::*;
+use super::{PUBLISH_A, READ};
+use crate::{Ran, run_lines};
 use std::alloc::{AllocError, Global};
 use txn_base::Limits;
+use txn_fixtures::{A, TOPIC, disk_with};
 use txn_memdisk::{Choice, FaultAt, MemDisk, Op};
 
 const NOTHING: &str = "{\"limit\":0,\"messages\":[],\"ok\":\"read\"}\n";

@@ -2,9 +2,10 @@
 ghost use Rattle.txn_base.specs.Limits.{InRange};
 
 use super::READ;
-use crate::*;
+use crate::{Ran, run_lines};
 use std::alloc::{AllocError, Global};
 use txn_base::Limits;
+use txn_fixtures::{TOPIC, with_log, with_message};
 use txn_memdisk::MemDisk;
 
 /// A run over an empty disk.

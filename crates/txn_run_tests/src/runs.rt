@@ -3,12 +3,9 @@ ghost use Rattle.std.specs.Prelude.{};
 ghost use Rattle.txn_base.specs.Limits.{InRange};
 
 use std::alloc::{AllocError, Global};
-use txn_base::{Bytes, FileId, Limits, Text};
-use txn_memdisk::{FaultAt, ListClock, MemDisk, MemSink, MemSource};
+use txn_base::{Bytes, Limits, Text};
+use txn_memdisk::{ListClock, MemDisk, MemSink, MemSource};
 use txn_run::run;
-
-/// The ledger of the first topic.
-pub const TOPIC: FileId = FileId { part: 1, row: 2 };
 
 /// How a run ended, and what it put.
 #[derive(Debug, Drop)]
@@ -23,13 +20,6 @@ impl Ran {
     pub fn shown(&self) -> (&str, &str) {
         (self.status.as_str(), self.put.as_str())
     }
-}
-
-/// A disk on which these bytes are the topic's ledger.
-pub fn disk_with(alloc: Global, bytes: &[u8], faults: &[FaultAt]) -> Result<MemDisk, AllocError> {
-    let mut disk = MemDisk::new(alloc, faults)?;
-    disk.put_file(TOPIC, bytes)?;
-    Ok(disk)
 }
 
 /// A run with these words over a source and a sink.

@@ -6,6 +6,9 @@ use std::alloc::{AllocError, Global};
 /// An entry: its kind, the least significant number of its transaction, and a part or the byte of a body where it has one.
 pub type Short = (u8, u8, u8);
 
+/// The file of one batch, of the message "a".
+pub const A: &[u8] = &[1, 0, 0, 0, 5, 0, 3, 1, 1, b'a'];
+
 /// A frame up to the number of its transaction, for a record of so many bytes.
 fn put_head(bytes: &mut Vec<u8>, size: u8, kind: u8, txn: u8) -> Result<(), AllocError>
     requires { size ≤ 26 }

@@ -2,9 +2,10 @@
 ghost use Rattle.txn_base.specs.Limits.{InRange};
 
 use super::{PUBLISH_AND_READ, READ};
-use crate::*;
+use crate::{Ran, run_lines, run_over};
 use std::alloc::{AllocError, Global};
 use txn_base::{Bytes, Limits};
+use txn_fixtures::with_line;
 use txn_memdisk::{MemDisk, MemSink, MemSource};
 
 const REPLIES: &str = "{\"at\":0,\"count\":1,\"ok\":\"publish\"}

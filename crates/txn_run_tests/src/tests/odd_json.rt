@@ -1,8 +1,8 @@
 //! Odd JSON, over a topic with the one message "a".
-use super::A;
-use crate::*;
+use crate::{Ran, run_lines, run_over};
 use std::alloc::{AllocError, Global};
 use txn_base::{Bytes, Limits};
+use txn_fixtures::{A, TOPIC, disk_with};
 use txn_memdisk::{MemSink, MemSource};
 
 const BAD: &str = "{\"no\":\"bad_line\"}\n";

@@ -1,8 +1,9 @@
 //! Calls of the disk that fail once.
-use super::{A, PUBLISH_AND_READ, READ};
-use crate::*;
+use super::{PUBLISH_AND_READ, READ};
+use crate::{Ran, run_lines};
 use std::alloc::{AllocError, Global};
 use txn_base::Limits;
+use txn_fixtures::{A, TOPIC, disk_with};
 use txn_memdisk::{Choice, FaultAt, MemDisk, Op};
 
 fn fault(op: Op, nth: u64) -> FaultAt {

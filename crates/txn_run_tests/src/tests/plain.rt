@@ -1,8 +1,9 @@
 //! Plain publishes and reads.
-use super::{A, PUBLISH_A, PUBLISH_AND_READ, READ};
-use crate::*;
+use super::{PUBLISH_A, PUBLISH_AND_READ, READ};
+use crate::run_lines;
 use std::alloc::AllocError;
 use txn_base::Limits;
+use txn_fixtures::{A, TOPIC, disk_with};
 use txn_memdisk::{FaultAt, MemDisk, Op};
 
 #[test]
