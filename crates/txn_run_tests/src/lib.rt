@@ -3,7 +3,7 @@
 
 mod runs;
 
-pub use runs::{Ran, run_lines, run_over, run_words};
+pub use runs::{Ran, run_at, run_lines, run_over, run_words};
 
 #[cfg(test)]
 mod tests;

@@ -22,7 +22,31 @@ impl Ran {
     }
 }
 
-/// A run with these words over a source and a sink.
+/// A run with these words over a source, a sink and a clock.
+fn run_by(
+    alloc: Global,
+    words: &[&str],
+    limits: &Limits,
+    disk: &mut MemDisk,
+    source: &mut MemSource,
+    sink: &mut MemSink,
+    clock: &mut ListClock,
+) -> Result<Ran, AllocError>
+    requires { InRange limits.now }
+{
+    let mut texts = Vec::new(alloc);
+    for word in words {
+        texts.push(Text::from_str(alloc, word)?)?;
+    }
+    let status = run(alloc, &texts, limits, disk, source, sink, clock);
+    let put = str::from_utf8(sink.bytes()).unwrap_or("bytes that are no text");
+    Ok(Ran {
+        status: format!(in alloc; "{status:?}")?,
+        put: String::from_str(alloc, put)?,
+    })
+}
+
+/// A run with these words over a source and a sink. Its clock tells 0.
 pub fn run_over(
     alloc: Global,
     words: &[&str],
@@ -33,17 +57,8 @@ pub fn run_over(
 ) -> Result<Ran, AllocError>
     requires { InRange limits.now }
 {
-    let mut texts = Vec::new(alloc);
-    for word in words {
-        texts.push(Text::from_str(alloc, word)?)?;
-    }
     let mut clock = ListClock::new(&[]);
-    let status = run(alloc, &texts, limits, disk, source, sink, &mut clock);
-    let put = str::from_utf8(sink.bytes()).unwrap_or("bytes that are no text");
-    Ok(Ran {
-        status: format!(in alloc; "{status:?}")?,
-        put: String::from_str(alloc, put)?,
-    })
+    run_by(alloc, words, limits, disk, source, sink, &mut clock)
 }
 
 /// A run with these words and this input, which comes in pieces of 4,096 bytes.
@@ -60,6 +75,32 @@ pub fn run_words(
     let mut source = MemSource::new(alloc, bytes, 4096, &[])?;
     let mut sink = MemSink::new(alloc, 4096, &[])?;
     run_over(alloc, words, limits, disk, &mut source, &mut sink)
+}
+
+/// A run over the topic `orders`, whose clock tells these moments.
+pub fn run_at(
+    alloc: Global,
+    limits: &Limits,
+    disk: &mut MemDisk,
+    moments: &[u64],
+    input: &str,
+) -> Result<Ran, AllocError>
+    requires { InRange limits.now }
+{
+    let words = ["lines", "orders"];
+    let bytes = Bytes::from_slice(alloc, input.as_bytes())?;
+    let mut source = MemSource::new(alloc, bytes, 4096, &[])?;
+    let mut sink = MemSink::new(alloc, 4096, &[])?;
+    let mut clock = ListClock::new(moments);
+    run_by(
+        alloc,
+        &words,
+        limits,
+        disk,
+        &mut source,
+        &mut sink,
+        &mut clock,
+    )
 }
 
 /// A run over the topic `orders`.

@@ -2,6 +2,5 @@
 mod coordinators;
 mod ledgers;
 mod logs;
-mod openings;
 mod steps;
 mod topics;
