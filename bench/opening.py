@@ -5,14 +5,13 @@ Usage: opening.py [PROGRAM [FOLDER]]   (PROGRAM as `rt run` left it, unless anot
 import os
 import statistics
 import subprocess
-import sys
-import tempfile
 import time
 
-HERE = os.path.dirname(os.path.abspath(__file__))
-PROGRAM = os.path.abspath(sys.argv[1]) if len(sys.argv) > 1 else f"{HERE}/../crates/pulsar_txn/out/pulsar_txn"
+from behind_pipes import LEDGER, PROGRAM, folder
+from grammar import frame_of
+
 RECORDS, BATCH, ROUNDS = 1_000_000, 64, 5
-RECORD = bytes.fromhex("00 03 01 01 61")
+RECORD = bytes.fromhex("01 01 61")
 
 
 def write(path):
@@ -21,16 +20,15 @@ def write(path):
         left = RECORDS
         while left > 0:
             count = min(left, BATCH)
-            body = RECORD * count
-            file.write(b"\1" + len(body).to_bytes(4, "big") + body)
+            file.write(frame_of([RECORD] * count))
             left -= count
         file.flush()
         os.fsync(file.fileno())
 
 
-def opened(folder):
+def opened(top):
     begin = time.perf_counter()
-    done = subprocess.run([PROGRAM, folder, "lines", "orders"], input=b"", capture_output=True)
+    done = subprocess.run([PROGRAM, top, "lines", "orders"], input=b"", capture_output=True)
     took = time.perf_counter() - begin
     assert (done.returncode, done.stdout, done.stderr) == (0, b"", b""), done
     return took
@@ -44,11 +42,15 @@ def passed(path):
     return time.perf_counter() - begin
 
 
-with tempfile.TemporaryDirectory(dir=sys.argv[2] if len(sys.argv) > 2 else None) as folder:
-    path = f"{folder}/p01-r0000000002"
-    write(path)
-    rounds = [(opened(folder), passed(path)) for _ in range(ROUNDS)]
-    opening, reading = (statistics.median(column) for column in zip(*rounds))
-    print(f"{RECORDS} records, {os.path.getsize(path)} bytes")
-    print(f"opening: {opening:.3f} s (from {min(r[0] for r in rounds):.3f} to {max(r[0] for r in rounds):.3f})")
-    print(f"one pass in pieces of 64 KB: {reading:.3f} s (from {min(r[1] for r in rounds):.3f} to {max(r[1] for r in rounds):.3f})")
+def main():
+    with folder() as top:
+        path = f"{top}/{LEDGER}"
+        write(path)
+        rounds = [(opened(top), passed(path)) for _ in range(ROUNDS)]
+        opening, reading = (statistics.median(column) for column in zip(*rounds))
+        print(f"{RECORDS} records, {os.path.getsize(path)} bytes")
+        print(f"opening: {opening:.3f} s (from {min(r[0] for r in rounds):.3f} to {max(r[0] for r in rounds):.3f})")
+        print(f"one pass in pieces of 64 KB: {reading:.3f} s (from {min(r[1] for r in rounds):.3f} to {max(r[1] for r in rounds):.3f})")
+
+
+main()

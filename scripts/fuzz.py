@@ -16,11 +16,9 @@ sys.dont_write_bytecode = True
 
 import fuzz_cases
 import grammar
+from program import LEDGER, PROGRAM
 
-HERE = os.path.dirname(os.path.abspath(__file__))
-PROGRAM = os.path.abspath(sys.argv[1]) if len(sys.argv) > 1 else f"{HERE}/../crates/pulsar_txn/out/pulsar_txn"
 LINES, FILES, SEED = ([int(word) for word in sys.argv[2:5]] + [100_000, 10_000, 1][len(sys.argv[2:5]):])
-LEDGER = "p01-r0000000002"
 SECONDS = 60
 MEMORY = "/dev/shm" if os.path.isdir("/dev/shm") else None
 

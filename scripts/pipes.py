@@ -7,13 +7,14 @@ import subprocess
 import sys
 import tempfile
 
-HERE = os.path.dirname(os.path.abspath(__file__))
-PROGRAM = os.path.abspath(sys.argv[1]) if len(sys.argv) > 1 else f"{HERE}/../crates/pulsar_txn/out/pulsar_txn"
+sys.dont_write_bytecode = True
+
+from program import LEDGER, PROGRAM
+
 PUBLISH = b'{"do":"publish","topic":"orders","data":"a"}\n'
 READ = b'{"do":"read","topic":"orders","from":0,"max":10}\n'
 FIRST = b'{"at":0,"count":1,"ok":"publish"}\n'
 SHOWN = b'{"limit":1,"messages":[[0,"a"]],"ok":"read"}\n'
-LEDGER = "p01-r0000000002"
 FRAME = bytes.fromhex("01 00 00 00 05 00 03 01 01 61")
 
 
