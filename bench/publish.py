@@ -3,12 +3,12 @@
 the five calls of an append alone, with frames of the same size. One message a publish, and 64 in one batch. Fifty rounds of
 100 lines each, the two by turns; the median of the rounds' ratios.
 Usage: publish.py [PROGRAM [FOLDER]]   (PROGRAM as `rt run` left it, unless another is named; the disk of FOLDER is measured)"""
-import statistics
 import time
 
-from behind_pipes import PROGRAM, ask, compiled, folder, start
+from behind_pipes import PROGRAM, ask, by_turns, compiled, ended, folder, start
 
 LINES, ROUNDS, SIZE = 100, 50, 100
+PUBLISHED, FLOOR = b'"ok":"publish"}\n', b'{"ok":"floor"}\n'
 
 
 def line_of(messages):
@@ -22,36 +22,26 @@ def frame_size(messages):
     return 5 + messages * (2 + 2 + SIZE)
 
 
-def is_published(reply):
-    return reply.endswith(b'"ok":"publish"}\n')
-
-
-def seconds(command, line):
+def seconds(command, line, told):
+    """How long the lines take behind a first one, where each reply ends as it has to."""
     program, reply = start(command, line)
-    assert is_published(reply), reply
+    assert reply.endswith(told), reply
     begin = time.perf_counter()
     for _ in range(LINES):
         reply = ask(program, line)
-        assert is_published(reply), reply
+        assert reply.endswith(told), reply
     end = time.perf_counter()
-    program.stdin.close()
-    assert program.wait() == 0
+    ended(program)
     return end - begin
 
 
 def row(top, floor, messages):
-    line, size = line_of(messages), str(frame_size(messages))
-    ratios, ours, theirs = [], [], []
-    for k in range(ROUNDS):
-        pair = [("floor", [floor, f"{top}/floor-{messages}-{k}", size]), ("program", [PROGRAM, f"{top}/data-{messages}-{k}", "lines", "orders"])]
-        took = {name: seconds(command, line) for name, command in (pair if k % 2 else pair[::-1])}
-        ours.append(LINES / took["program"])
-        theirs.append(LINES / took["floor"])
-        ratios.append(took["floor"] / took["program"])
-        print(f"{messages} a publish, round {k + 1}: program {ours[-1]:.0f} publishes a second, floor {theirs[-1]:.0f}, ratio {ratios[-1]:.2f}", flush=True)
-    quarter, _, three_quarters = statistics.quantiles(ratios, n=4)
-    print(f"{messages} a publish, median: program {statistics.median(ours):.0f} publishes a second, floor {statistics.median(theirs):.0f}")
-    print(f"{messages} a publish, ratios: median {statistics.median(ratios):.2f}, half of them from {quarter:.2f} to {three_quarters:.2f}, all from {min(ratios):.2f} to {max(ratios):.2f}", flush=True)
+    line, appends = line_of(messages), f"0:{frame_size(messages)}"
+    by_turns(
+        f"{messages} a publish", "publishes", ROUNDS, LINES,
+        lambda k: seconds([PROGRAM, f"{top}/data-{messages}-{k}", "lines", "orders"], line, PUBLISHED),
+        lambda k: seconds([floor, f"{top}/floor-{messages}-{k}", appends], line, FLOOR),
+    )
 
 
 def main():
