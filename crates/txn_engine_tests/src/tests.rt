@@ -12,6 +12,7 @@ use txn_memdisk::MemDisk;
 mod bounds;
 mod faults;
 mod moments;
+mod openings;
 mod publishes;
 mod refusals;
 

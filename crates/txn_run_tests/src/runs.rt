@@ -22,7 +22,7 @@ impl Ran {
     }
 }
 
-/// A run with these words over a source, a sink and a clock.
+/// A run with these words over a source and a sink, whose clock tells these moments.
 fn run_by(
     alloc: Global,
     words: &[&str],
@@ -30,7 +30,7 @@ fn run_by(
     disk: &mut MemDisk,
     source: &mut MemSource,
     sink: &mut MemSink,
-    clock: &mut ListClock,
+    moments: &[u64],
 ) -> Result<Ran, AllocError>
     requires { InRange limits.now }
 {
@@ -38,7 +38,8 @@ fn run_by(
     for word in words {
         texts.push(Text::from_str(alloc, word)?)?;
     }
-    let status = run(alloc, &texts, limits, disk, source, sink, clock);
+    let mut clock = ListClock::new(moments);
+    let status = run(alloc, &texts, limits, disk, source, sink, &mut clock);
     let put = str::from_utf8(sink.bytes()).unwrap_or("bytes that are no text");
     Ok(Ran {
         status: format!(in alloc; "{status:?}")?,
@@ -57,8 +58,7 @@ pub fn run_over(
 ) -> Result<Ran, AllocError>
     requires { InRange limits.now }
 {
-    let mut clock = ListClock::new(&[]);
-    run_by(alloc, words, limits, disk, source, sink, &mut clock)
+    run_by(alloc, words, limits, disk, source, sink, &[])
 }
 
 /// A run with these words and this input, which comes in pieces of 4,096 bytes.
@@ -91,16 +91,7 @@ pub fn run_at(
     let bytes = Bytes::from_slice(alloc, input.as_bytes())?;
     let mut source = MemSource::new(alloc, bytes, 4096, &[])?;
     let mut sink = MemSink::new(alloc, 4096, &[])?;
-    let mut clock = ListClock::new(moments);
-    run_by(
-        alloc,
-        &words,
-        limits,
-        disk,
-        &mut source,
-        &mut sink,
-        &mut clock,
-    )
+    run_by(alloc, &words, limits, disk, &mut source, &mut sink, moments)
 }
 
 /// A run over the topic `orders`.
