@@ -38,6 +38,7 @@ fn is_asked(request: &Request) -> bool
 {
     match request {
         Request::New { .. } | Request::Add { .. } | Request::Status { .. } => true,
+        Request::Commit { .. } | Request::Abort { .. } => true,
         Request::Publish { bodies, .. } => bodies.len() > 0,
         Request::Read { max, .. } => *max > 0,
         _ => false,

@@ -10,6 +10,7 @@ use txn_base::{Bytes, Limits, Steps};
 use txn_memdisk::MemDisk;
 
 mod bounds;
+mod ends;
 mod faults;
 mod moments;
 mod openings;

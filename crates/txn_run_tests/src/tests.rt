@@ -9,6 +9,8 @@ mod odd_json;
 mod plain;
 mod refusals;
 mod statuses;
+mod transaction_stops;
+mod transactions;
 
 pub const PUBLISH_A: &str = r#"{"do":"publish","topic":"orders","data":"a"}
 "#;
