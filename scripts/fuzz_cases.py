@@ -60,22 +60,31 @@ def some_number(rng):
 
 
 def some_id(rng):
-    return f"[0,{rng.randrange(8)}]" if rng.random() < 0.8 else f"[{some_number(rng)},{some_number(rng)}]"
+    if rng.random() < 0.9:
+        return f"[0,{rng.randrange(12)}]"
+    return f"[{some_number(rng)},{some_number(rng)}]"
+
+
+def some_timeout(rng):
+    return rng.choice(["0", "1", "60000", "86400000", "86400001"]) if rng.random() < 0.5 else some_number(rng)
 
 
 VALUES = {
-    "timeout": some_number, "place": some_number, "from": some_number, "max": some_number,
+    "timeout": some_timeout, "place": some_number, "from": some_number, "max": some_number,
     "txn": some_id, "topic": some_topic, "data": some_data,
     "part": some_topic, "sub": lambda rng: spelled(rng, some_text(rng)),
     "places": lambda rng: "[" + ",".join(some_number(rng) for _ in range(rng.randrange(4))) + "]",
 }
 
 
+OFTEN = ["new", "add", "add", *["publish"] * 4, *["read"] * 4, "commit", "abort", "status"]
+
+
 def some_form(rng):
-    """The keys and values of a form, those of publishes and reads more often than others."""
-    name = rng.choice(["publish", "publish", "read", "read", "read"]) if rng.random() < 0.8 else rng.choice(list(grammar.FORMS))
+    """The keys and values of a form, those that are answered more often than others."""
+    name = rng.choice(OFTEN) if rng.random() < 0.9 else rng.choice(list(grammar.FORMS))
     needed, allowed = grammar.FORMS[name]
-    keys = list(needed) + [key for key in allowed if rng.random() < (0.2 if name == "publish" else 0.5)]
+    keys = list(needed) + [key for key in allowed if rng.random() < 0.5]
     return [("do", f'"{name}"')] + [(key, VALUES[key](rng)) for key in keys]
 
 
@@ -199,7 +208,7 @@ def some_lines(rng, count):
     return given + rng.choice([b"", b"\n"])
 
 
-# ---- Ledgers.
+# ---- Logs and ledgers.
 
 def some_body(rng):
     way = rng.random()
@@ -211,7 +220,33 @@ def some_body(rng):
 
 
 def some_txn(rng):
-    return rng.randrange(2).to_bytes(8, "big") + rng.randrange(4).to_bytes(8, "big")
+    return rng.choice([0, 0, 0, 1]).to_bytes(8, "big") + rng.randrange(4).to_bytes(8, "big")
+
+
+def some_entry(rng, transactions):
+    """A record of a log, mostly in the grammar, and mostly one that may stand behind those before it."""
+    number = rng.randrange(len(transactions) + 1)
+    if number == len(transactions) or rng.random() < 0.01:
+        kind = grammar.NEW
+    else:
+        before, has_topic = transactions[number]
+        kinds = [kind for kind, needed in grammar.BEFORE.items() if needed == before and (kind != grammar.ADD_PART or not has_topic)]
+        kind = rng.choice(kinds) if kinds and rng.random() < 0.99 else rng.randrange(1, 7)
+    more = rng.randrange(1 << 40).to_bytes(8, "big") if kind == grammar.NEW else b"\0\0\0\1" if kind == grammar.ADD_PART else b""
+    if kind == grammar.NEW:
+        number = len(transactions) if rng.random() < 0.99 else rng.randrange(5)
+    if number < len(transactions) or kind == grammar.NEW:
+        grammar.step(transactions, kind, number, more)
+    record = bytes([1, kind]) + bytes(8) + number.to_bytes(8, "big") + more
+    return mutated(rng, record, 2) if rng.random() < 0.005 else record
+
+
+def some_log(rng):
+    """The bytes of a coordinator's log, as they may be or with a few of them changed."""
+    transactions = []
+    frames = [grammar.frame_of([some_entry(rng, transactions)]) for _ in range(rng.randrange(12))]
+    log = b"".join(frames) + some_tail(rng)
+    return mutated(rng, log, 3) if rng.random() < 0.2 else log
 
 
 def some_record(rng, marked):
@@ -269,12 +304,15 @@ def some_ledger(rng):
 
 
 def look_at(rng):
-    """An input that looks at a ledger: reads, and sometimes publishes between them."""
-    first = rng.randrange(4)
+    """An input that looks at a log and a ledger: reads, and sometimes publishes and ends between them."""
+    first, number = rng.randrange(4), rng.randrange(4)
     lines = [
         '{"do":"read","topic":"orders","from":0,"max":100}',
         f'{{"do":"read","topic":"orders","from":{first},"max":{rng.randrange(1, 4)}}}',
+        f'{{"do":"status","txn":[0,{number}]}}',
         '{"do":"publish","topic":"orders","data":["y","z"]}',
+        f'{{"do":"publish","topic":"orders","txn":[0,{number}],"data":["y","z"]}}',
+        f'{{"do":"{rng.choice(["commit", "abort"])}","txn":[0,{number}]}}',
         f'{{"do":"read","topic":"orders","from":{first},"max":100}}',
     ]
-    return "\n".join(lines[:rng.choice([1, 2, 4, 4])]).encode()
+    return "\n".join(lines[:rng.choice([1, 3, 5, 7, 7])]).encode()

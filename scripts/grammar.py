@@ -1,5 +1,5 @@
 """What a run of `lines orders` must do, read off docs/LINES.md and docs/FORMAT.md and written apart from the program: JSON,
-the forms of requests, frames, records, lawful lists, and the replies. It takes nothing from the program or its libraries."""
+the forms of requests, frames, records, lawful lists, transactions, and the replies. It takes nothing from the program or its libraries."""
 import math
 import re
 
@@ -280,6 +280,43 @@ def entries_of(records):
     return entries
 
 
+# ---- Records of a coordinator's log.
+
+NEW, ADD_PART, COMMITTING, COMMITTED, ABORTING, ABORTED = 1, 2, 3, 4, 5, 6
+STATUSES = {NEW: "open", COMMITTING: "committing", COMMITTED: "committed", ABORTING: "aborting", ABORTED: "aborted"}
+MORE = {NEW: 8, ADD_PART: 4, COMMITTING: 0, COMMITTED: 0, ABORTING: 0, ABORTED: 0}
+BEFORE = {ADD_PART: NEW, COMMITTING: NEW, ABORTING: NEW, COMMITTED: COMMITTING, ABORTED: ABORTING}
+ENDS = {"commit": (COMMITTING, COMMITTED, COMMIT), "abort": (ABORTING, ABORTED, ABORT)}
+ANSWERED = ("new", "add", "publish", "commit", "abort", "status", "read")
+DAY = 86_400_000
+
+
+def step(transactions, kind, number, more):
+    """Takes an entry of the log into the list of transactions. Tells whether it may stand there."""
+    if kind == NEW:
+        transactions.append((NEW, False))
+        return number == len(transactions) - 1
+    if number >= len(transactions) or transactions[number][0] != BEFORE[kind]:
+        return False
+    before, has_topic = transactions[number]
+    if kind == ADD_PART:
+        transactions[number] = (before, True)
+        return not has_topic and more == (1).to_bytes(4, "big")
+    transactions[number] = (kind, has_topic)
+    return True
+
+
+def transactions_of(records):
+    """The transactions of a log's records, where these are lawful for one named part."""
+    transactions = []
+    for place, record in enumerate(records):
+        kind, number = record[1], int.from_bytes(record[10:18], "big")
+        fits = record[0] == 1 and kind in MORE and len(record) == 18 + MORE[kind] and not any(record[2:10])
+        if not fits or not step(transactions, kind, number, record[18:]):
+            raise Damaged(place)
+    return transactions
+
+
 def frame_of(records):
     body = b"".join(len(record).to_bytes(2, "big") + record for record in records)
     return b"\1" + len(body).to_bytes(4, "big") + body
@@ -289,81 +326,44 @@ def frame_of(records):
 
 SHORT = {8: "\\b", 9: "\\t", 10: "\\n", 12: "\\f", 13: "\\r", 34: '\\"', 92: "\\\\"}
 TABLE = {code: SHORT.get(code, f"\\u{code:04x}") for code in [*range(32), 34, 92]}
-BAD_LINE, TOO_LONG, TOO_BIG, BAD_TIMEOUT, NOT_FOUND = (
-    f'{{"no":"{word}"}}' for word in ("bad_line", "too_long", "too_big", "bad_timeout", "not_found"))
-ANSWERED = ("new", "add", "publish", "read", "status")
-DAY = 86_400_000
+BAD_LINE, TOO_LONG, TOO_BIG = (f'{{"no":"{word}"}}' for word in ("bad_line", "too_long", "too_big"))
 
 
 def quoted(text):
     return '"' + text.translate(TABLE) + '"'
 
 
-def unknown_part(name):
-    return f'{{"name":{quoted(name)},"no":"unknown_part"}}'
-
-
-def unknown_coordinator(number):
-    return f'{{"no":"unknown_coordinator","number":{number}}}'
+def refused(word, **more):
+    """A refusal, its members in the order of their keys."""
+    members = sorted([*more.items(), ("no", word)])
+    return "{" + ",".join(f'"{key}":{value if isinstance(value, int) else quoted(value)}' for key, value in members) + "}"
 
 
 class Topic:
-    """The one topic of a run: its entries, and the bytes of its ledger; and the transactions that the run began, with
-    whether the topic was added to them. No transaction was begun before it."""
+    """The one topic of a run: its entries, and the bytes of its ledger."""
 
     def __init__(self, entries, ledger):
-        self.entries, self.ledger, self.begun = entries, ledger, []
+        self.entries, self.ledger = entries, ledger
         self.ends = {txn: kind for kind, txn, _ in entries if kind in (COMMIT, ABORT)}
-        undecided = (k for k, (kind, txn, _) in enumerate(entries) if kind == OPENED and txn not in self.ends)
-        self.undecided = next(undecided, None)
 
     def limit(self):
-        return len(self.entries) if self.undecided is None else self.undecided
+        undecided = (k for k, (kind, txn, _) in enumerate(self.entries) if kind == OPENED and txn not in self.ends)
+        return next(undecided, len(self.entries))
 
-    def new(self, timeout):
-        if not 1 <= timeout <= DAY:
-            return BAD_TIMEOUT
-        self.begun.append(False)
-        return f'{{"ok":"new","txn":[0,{len(self.begun) - 1}]}}'
-
-    def status(self, most, least):
-        if most != 0:
-            return unknown_coordinator(most)
-        return '{"ok":"status","status":"open"}' if least < len(self.begun) else NOT_FOUND
-
-    def add(self, name, most, least):
-        if name != TOPIC:
-            return unknown_part(name)
-        if most != 0:
-            return unknown_coordinator(most)
-        if least >= len(self.begun):
-            return NOT_FOUND
-        self.begun[least] = True
-        return '{"ok":"add"}'
-
-    def publish(self, name, txn, texts):
-        """In a transaction, given by its two numbers, or in none."""
-        if name != TOPIC:
-            return unknown_part(name)
-        if txn and txn[0] != 0:
-            return unknown_coordinator(txn[0])
+    def publish(self, texts, txn):
         bodies = [text.encode() for text in texts]
-        if len(bodies) > BATCH or max(map(len, bodies)) > MESSAGE:
-            return TOO_BIG
-        kind, key = (OPENED, b"".join(number.to_bytes(8, "big") for number in txn)) if txn else (PLAIN, None)
-        if txn:
-            if txn[1] >= len(self.begun):
-                return NOT_FOUND
-            if key in self.ends:
-                return '{"no":"not_open","status":"open"}'
-            if not self.begun[txn[1]]:
-                return f'{{"no":"not_registered","part":{quoted(TOPIC)}}}'
         place = len(self.entries)
-        if txn and self.undecided is None:
-            self.undecided = place
-        self.entries += [(kind, key, body) for body in bodies]
-        self.ledger += frame_of([bytes([1, kind]) + (key or b"") + body for body in bodies])
+        self.entries += [(OPENED if txn else PLAIN, txn, body) for body in bodies]
+        start = b"\1\2" + txn if txn else b"\1\1"
+        self.ledger += frame_of([start + body for body in bodies])
         return f'{{"at":{place},"count":{len(bodies)},"ok":"publish"}}'
+
+    def mark(self, txn, kind):
+        """The marker of a transaction, where none stands."""
+        if txn not in self.ends:
+            self.ends[txn] = kind
+            self.entries.append((kind, txn, b""))
+            self.ledger += frame_of([bytes([1, kind]) + txn])
 
     def read(self, first, most):
         shown, size, limit = [], 0, self.limit()
@@ -376,6 +376,31 @@ class Topic:
                 shown.append(f"[{place},{quoted(body.decode())}]")
         return f'{{"limit":{limit},"messages":[{",".join(shown)}],"ok":"read"}}'
 
+
+class Coordinator:
+    """The transactions of a run: of each how far it is and whether the topic is its part; and the bytes of their log."""
+
+    def __init__(self, transactions, log):
+        self.transactions, self.log = transactions, log
+
+    def add_entry(self, kind, number, more=b""):
+        self.log += frame_of([bytes([1, kind]) + bytes(8) + number.to_bytes(8, "big") + more])
+        step(self.transactions, kind, number, more)
+
+    def status(self, number):
+        return STATUSES[self.transactions[number][0]]
+
+
+def too_big(texts):
+    return len(texts) > BATCH or max(len(text.encode()) for text in texts) > MESSAGE
+
+
+class World:
+    """A coordinator and a topic."""
+
+    def __init__(self, coordinator, topic):
+        self.coordinator, self.topic = coordinator, topic
+
     def answer(self, line):
         """The reply to a line, or None to a blank one."""
         if len(line) > LINE:
@@ -385,18 +410,68 @@ class Topic:
         request = request_of(line)
         if request is None or request["do"] not in ANSWERED:
             return BAD_LINE
-        if request["do"] == "new":
-            return self.new(request["timeout"])
-        if request["do"] == "status":
-            return self.status(*request["txn"])
-        if request["do"] == "add":
-            return self.add(request["part"], *request["txn"])
-        if request["do"] == "publish":
-            data = request["data"]
-            return self.publish(request["topic"], request.get("txn"), [data] if is_text(data) else data)
-        if request["topic"] != TOPIC:
-            return unknown_part(request["topic"])
-        return self.read(request["from"], request["max"])
+        name = request.get("topic", request.get("part", TOPIC))
+        if name != TOPIC:
+            return f'{{"name":{quoted(name)},"no":"unknown_part"}}'
+        if "txn" in request and request["txn"][0] != 0:
+            return refused("unknown_coordinator", number=request["txn"][0])
+        data = request.get("data")
+        texts = [data] if is_text(data) else data
+        if texts and too_big(texts):
+            return TOO_BIG
+        return self.lawful(request, texts)
+
+    def lawful(self, request, texts):
+        """The reply to a request that needs no look at the lists before."""
+        do = request["do"]
+        if do == "new":
+            return self.begin(request["timeout"])
+        if do == "read":
+            return self.topic.read(request["from"], request["max"])
+        if "txn" not in request:
+            return self.topic.publish(texts, None)
+        number = request["txn"][1]
+        if number >= len(self.coordinator.transactions):
+            return refused("not_found")
+        return self.inside(do, number, texts)
+
+    def begin(self, timeout):
+        if not 1 <= timeout <= DAY:
+            return refused("bad_timeout")
+        number = len(self.coordinator.transactions)
+        self.coordinator.add_entry(NEW, number, timeout.to_bytes(8, "big"))
+        return f'{{"ok":"new","txn":[0,{number}]}}'
+
+    def inside(self, do, number, texts):
+        """The reply to a request in a transaction that is there."""
+        status = self.coordinator.status(number)
+        txn = bytes(8) + number.to_bytes(8, "big")
+        if do == "status":
+            return f'{{"ok":"status","status":"{status}"}}'
+        if do in ENDS:
+            return self.end(do, number, txn)
+        if status != "open" or (do == "publish" and txn in self.topic.ends):
+            return refused("not_open", status=status)
+        has_topic = self.coordinator.transactions[number][1]
+        if do == "add":
+            if not has_topic:
+                self.coordinator.add_entry(ADD_PART, number, (1).to_bytes(4, "big"))
+            return '{"ok":"add"}'
+        return self.topic.publish(texts, txn) if has_topic else refused("not_registered", part=TOPIC)
+
+    def end(self, do, number, txn):
+        """The decision, the marker and the close, each where it isn't there."""
+        decided, closed, marker = ENDS[do]
+        kind, has_topic = self.coordinator.transactions[number]
+        if kind not in (NEW, decided, closed):
+            return refused("not_open", status=STATUSES[kind])
+        if kind == NEW:
+            self.coordinator.add_entry(decided, number)
+        if kind != closed:
+            if has_topic:
+                self.topic.mark(txn, marker)
+            self.coordinator.add_entry(closed, number)
+        return f'{{"ok":"{do}","status":"{STATUSES[closed]}"}}'
 
 
 def lines_of(given):
@@ -405,16 +480,34 @@ def lines_of(given):
     return pieces if pieces[-1] else pieces[:-1]
 
 
-def run(ledger, given):
-    """What a run over this ledger and this input does: its status, the lines that it was given with what is told of each,
-    what it says on standard error, and the ledger that it leaves. It tells nothing over a damaged ledger."""
+def opened(file, data, lists_of):
+    """What a file stands for, and its bytes as opening leaves them. Damage names the file."""
     try:
-        records, end = records_of_file(ledger)
+        records, end = records_of_file(data)
     except Damaged as damage:
-        return 2, [], f"damaged p01-r0000000002 {damage.entry}\n", ledger
+        raise Stopped(f"damaged {file} {damage.entry}\n", data) from None
     try:
-        topic = Topic(entries_of(records), ledger[:end])
+        return lists_of(records), data[:end]
     except Damaged as damage:
-        return 2, [], f"damaged p01-r0000000002 {damage.entry}\n", ledger[:end]
-    told = [(line, topic.answer(line)) for line in lines_of(given)]
-    return 0, told, "", topic.ledger
+        raise Stopped(f"damaged {file} {damage.entry}\n", data[:end]) from None
+
+
+class Stopped(Exception):
+    """A file is damaged: what is said of it, and its bytes as opening leaves them."""
+
+
+def run(log, ledger, given):
+    """What a run over these two files and this input does: its status, the lines that it was given with what is told of each,
+    what it says on standard error, and the files that it leaves. It tells nothing over a damaged file. In the log that it leaves
+    a timeout stands in place of the deadline of each transaction that was begun."""
+    try:
+        coordinator = Coordinator(*opened("p00-r0000000002", log, transactions_of))
+    except Stopped as stopped:
+        return 2, [], stopped.args[0], stopped.args[1], ledger
+    try:
+        topic = Topic(*opened("p01-r0000000002", ledger, entries_of))
+    except Stopped as stopped:
+        return 2, [], stopped.args[0], coordinator.log, stopped.args[1]
+    world = World(coordinator, topic)
+    told = [(line, world.answer(line)) for line in lines_of(given)]
+    return 0, told, "", coordinator.log, topic.ledger
