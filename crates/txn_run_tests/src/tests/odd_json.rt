@@ -116,13 +116,11 @@ const REFUSED: [&str; 44] = [
 ];
 
 // Forms that aren't answered yet, and one that a server alone answers.
-const LATER: [&str; 8] = [
+const LATER: [&str; 6] = [
     r#"{"do":"stop"}"#,
     r#"{"do":"tick"}"#,
     r#"{"do":"tick","x":1}"#,
     r#"{"do":"publish","topic":"orders","data":"a","txn":null}"#,
-    r#"{"do":"commit","txn":[0,0]}"#,
-    r#"{"do":"abort","txn":[0,0]}"#,
     r#"{"do":"receive","sub":"orders/billing","max":1}"#,
     r#"{"do":"ack","sub":"orders/billing","places":[0]}"#,
 ];
