@@ -26,6 +26,7 @@ pub mod Reserved
 pub mod Closing
 pub mod Driving
 pub mod Ended
+pub mod Causes
 pub mod OpeningFiles
 pub mod OpeningTopic
 pub mod OpeningLog

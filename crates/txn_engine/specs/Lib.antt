@@ -7,4 +7,5 @@ pub mod Refusals
 pub mod Publishing
 pub mod Opening
 pub mod Ending
+pub mod Causes
 pub mod Unopened

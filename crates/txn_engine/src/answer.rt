@@ -1,15 +1,17 @@
 //! The answer to one request.
-ghost use Rattle.std.specs.Prelude.{◌≡◌, ◌⊎◌, true, length};
+ghost use Rattle.std.specs.Prelude.{◌≡◌, ◌⊎◌, true, length, Some};
 ghost use Rattle.txn_base.specs.Disk.{Files, Since};
 ghost use Rattle.txn_base.specs.declared.reply.Reply.TheVariants as reply;
 ghost use Rattle.txn_base.specs.declared.reply.Refusal.TheVariants as no;
+ghost use Rattle.txn_base.specs.declared.reply.Refusal.{Refusal};
 ghost use Rattle.txn_engine.specs.Above.{KeepsAboveIf};
+ghost use Rattle.txn_engine.specs.Causes.{first_row, IsByRow};
 ghost use Rattle.txn_engine.specs.Kept.{IsEngine};
 ghost use Rattle.txn_engine.specs.Table.{table_of};
 ghost use Rattle.txn_engine.specs.Told.{IsAsked, RoseFor, CountsWithin, IsTellable};
 ghost use Rattle.txn_engine.specs.View.{IsWhole, IsTied, IsBacked};
 ghost use Rattle.txn_model.specs.declared.world.World.{World};
-ghost use Rattle.txn_model.specs.Answers.{AnswersAt};
+ghost use Rattle.txn_model.specs.Answers.{AnswersAt, moved};
 ghost use Rattle.txn_model.specs.Replies.{is_fault};
 ghost use Rattle.txn_model.specs.Sound.{StandsFor, StandsForKept};
 ghost use Rattle.txn_wire.specs.Short.{is_long};
@@ -35,6 +37,11 @@ impl Engine {
         // The reply is one of the table's, and leaves its state.
         ensures answers { D.tells → IsTied self.old → AnswersAt self.old.limits (RoseFor (D.faults disk.old) (D.faults disk.new) (D.part_faults disk.old) (D.part_faults disk.new)) (table_of self.old) request.now now result (table_of self.new) }
         ensures instead { D.tells → IsTied self.old → is_long result ≡ true → AnswersAt self.old.limits (RoseFor (D.faults disk.old) (D.faults disk.new) (D.part_faults disk.old) (D.part_faults disk.new)) (table_of self.old) request.now now (reply.No no.NoMemory) (table_of self.new) }
+
+        // A refusal by a row is told where that row is the first that comes, and nowhere else. Want of memory may be told in its
+        // place.
+        ensures rows { D.tells → IsTied self.old → (row : Refusal) → IsByRow row → result ≡ reply.No row → first_row self.old.limits (moved request.now now (table_of self.old)) request.now ≡ Some row }
+        ensures causes { D.tells → IsTied self.old → (row : Refusal) → first_row self.old.limits (moved request.now now (table_of self.old)) request.now ≡ Some row → (result ≡ reply.No row) ⊎ (result ≡ reply.No no.NoMemory) }
         ensures tellable { IsTellable result }
         ensures names { self.new.names ≡ self.old.names }
         ensures limits { self.new.limits ≡ self.old.limits }
