@@ -8,3 +8,4 @@ pub mod Counted
 pub mod FirstState
 pub mod Undamaged
 pub mod Running
+pub mod Promised

@@ -17,6 +17,7 @@ ghost use Rattle.txn_model.specs.declared.world.World.{World};
 ghost use Rattle.txn_model.specs.Names.{NamesLawful};
 ghost use Rattle.txn_run.specs.Before.{IsSoundBefore};
 ghost use Rattle.txn_run.specs.Going.{standing, Stands};
+ghost use Rattle.txn_run.specs.Promises.{KeepsPromises};
 ghost use Rattle.txn_run.specs.Run.{Ended, FaultIsLast, IsRan, IsOpened, IsUnstarted, IsQuiet, IsAnswered, RunOf};
 ghost use Rattle.txn_run.specs.Words.{command_of};
 ghost use Rattle.txn_run.specs.declared.status.RunStatus.TheVariants as status;
@@ -53,6 +54,9 @@ pub fn run<D: Disk, I: Source, O: Sink, K: Clock>(
     ensures answers { (name : List ℕ) → command_of words.now ≡ Ok name → D.tells → (sound : IsSoundBefore (name ∷ []) (D.seen disk.old)) → RunOf result limits.now (name ∷ []) sound.world (K.moments clock.old) (K.moments clock.new) (D.image disk.old) (D.image disk.new) (D.faults disk.old) (D.faults disk.new) (D.part_faults disk.old) (D.part_faults disk.new) (I.left source.old) (I.left source.new) (O.held sink.old) (O.held sink.new) }
     ensures images { (name : List ℕ) → command_of words.now ≡ Ok name → Since D.moment D.image D.left_since (KeepsAbove (name ∷ [])) disk.old disk.new }
     ensures always { (name : List ℕ) → command_of words.now ≡ Ok name → (floor : World) → ((c : Files) → D.image disk.old c → StandsAbove (name ∷ []) floor c) → (c : Files) → D.left_since disk.new (D.moment disk.old) c → StandsAbove (name ∷ []) floor c }
+
+    // In the words of transactions: at every moment each image keeps the promises, and nothing of what stood lapses.
+    ensures promises { (name : List ℕ) → command_of words.now ≡ Ok name → (floor : World) → ((c : Files) → D.image disk.old c → StandsAbove (name ∷ []) floor c) → (c : Files) → D.left_since disk.new (D.moment disk.old) c → KeepsPromises (name ∷ []) floor c }
     ensures usage { (u : Usage) → command_of words.now ≡ Err u → ((result ≡ status.Usage u) ⊎ (result ≡ status.NoMemory)) × (disk.new ≡ disk.old) × (source.new ≡ source.old) × (sink.new ≡ sink.old) }
     ensures command { (u : Usage) → result ≡ status.Usage u → command_of words.now ≡ Err u }
     ensures undamaged { IsAnswered result → D.tells → AreParts 1 (D.seen disk.old) }

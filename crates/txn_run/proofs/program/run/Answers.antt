@@ -6,6 +6,7 @@ use Rattle.txn_base.specs.Disk.{Since}
 use Rattle.txn_base.proofs.Moments.{at_any_moment}
 use Rattle.txn_run.specs.Run.{RunOf}
 use Rattle.txn_run.specs.Words.{command_of}
+use Rattle.txn_run.proofs.Promised.{keeps_promises}
 use Rattle.txn_run.proofs.Running.{named_as, run_named}
 use Rattle.txn_run.proofs.program.run.Goals as goal
 
@@ -38,3 +39,14 @@ returns-in-Ok-clause-always g c name command floor before image left =
     let since = subst (λ (ns : List (List ℕ)). Since g.D.Disk.moment g.D.Disk.image g.D.Disk.left_since (KeepsAbove ns) c.args.disk.now c.with_count.new.disk) (named_as (command_of c.args.words.now) c.in-Ok.names.items named.0 name named.1 named.2 command) c.with_count.ensures.images in
     at_any_moment g.D.Disk.moment g.D.Disk.image g.D.Disk.left_since (KeepsAbove (name ∷ [])) (StandsAbove (name ∷ []) floor) c.args.disk.now c.with_count.new.disk since
     (g.met.D.Disk.only_now c.args.disk.now) before (λ d e at keeps. keeps floor (before d at)) image left
+
+pub returns-in-Ok-clause-promises : goal.returns-in-Ok-clause-promises
+returns-in-Ok-clause-promises g c name command floor before image left =
+    let named = c.in-Ok.ensures.words in
+    let since = subst (λ (ns : List (List ℕ)). Since g.D.Disk.moment g.D.Disk.image g.D.Disk.left_since (KeepsAbove ns) c.args.disk.now c.with_count.new.disk) (named_as (command_of c.args.words.now) c.in-Ok.names.items named.0 name named.1 named.2 command) c.with_count.ensures.images in
+    keeps_promises (name ∷ []) floor image
+    (at_any_moment g.D.Disk.moment g.D.Disk.image g.D.Disk.left_since (KeepsAbove (name ∷ [])) (StandsAbove (name ∷ []) floor) c.args.disk.now c.with_count.new.disk since
+    (g.met.D.Disk.only_now c.args.disk.now) before (λ d e at keeps. keeps floor (before d at)) image left)
+
+pub returns-in-Err-clause-promises : goal.returns-in-Err-clause-promises
+returns-in-Err-clause-promises g c name command floor before image left = keeps_promises (name ∷ []) floor image (before image (g.met.D.Disk.only_now c.args.disk.now image left))

@@ -1,0 +1,51 @@
+-- A lawful world keeps the promises, and one that extends another lets nothing lapse.
+use Rattle.std.proofs.Common.{◌≡◌, ℕ, ◌≤◌, List, ◌∷◌, ◌++◌, length, Some, sym, subst}
+use mathlib.Core.List.{IsPrefix}
+use Rattle.txn_base.specs.declared.core_entry.CoreEntry.{CoreEntry}
+use Rattle.txn_base.specs.declared.entry.CoordEntry.{CoordEntry}
+use Rattle.txn_base.specs.declared.entry.TopicEntry.{TopicEntry}
+use Rattle.txn_base.specs.declared.txn.Decision.{Decision}
+use Rattle.txn_base.specs.declared.txn.TxnId.{TxnId}
+use Rattle.txn_base.specs.Disk.{Files}
+use Rattle.txn_model.specs.declared.world.World.{World}
+use Rattle.txn_model.specs.Coord.{CoordLawful, decision_of, decision_skeleton}
+use Rattle.txn_model.specs.Skeletons.{coord_skeleton, coord_skeletons}
+use Rattle.txn_model.specs.World.{Lawful, Extends}
+use Rattle.txn_model.specs.Words.{list_at}
+use Rattle.txn_model.specs.Topic.{visible_of, limit_of}
+use Rattle.txn_model.proofs.Below.{visible_below}
+use Rattle.txn_model.proofs.LawfulGrowth.{decision_stays}
+use Rattle.txn_model.proofs.Prefixes.{map_append, visible_longer, limit_longer}
+use Rattle.txn_model.proofs.Statuses.{undecided_before}
+use Rattle.txn_engine.specs.Above.{StandsAbove}
+use Rattle.txn_run.specs.Promises.{Promises, NeverLapses, KeepsPromises}
+
+promised : (w : World) → Lawful w → Promises w
+promised w lawful = record {
+  cursor = λ p. visible_below (list_at w.topics p);
+  registered = lawful.registered;
+  decided = lawful.decided;
+  complete = lawful.closed;
+  once = λ c more x d e. undecided_before (length w.names) c x d more (subst (CoordLawful (length w.names)) e lawful.coord);
+}
+
+-- by a list that is a front of another
+longer : {E : Type 0} (P : List E → List E → Type 0) → ((xs more : List E) → P xs (xs ++ more)) → (xs ys : List E) → IsPrefix xs ys → P xs ys
+longer P more xs ys front = subst (P xs) front.1 (more xs front.0)
+
+lapsed : (w w' : World) → Extends w w' → NeverLapses w w'
+lapsed w w' grown = record {
+  visible = λ p. longer (λ (xs ys : List TopicEntry). IsPrefix (visible_of xs) (visible_of ys)) visible_longer (list_at w.topics p) (list_at w'.topics p) (grown.topics p);
+  limit = λ p. longer (λ (xs ys : List TopicEntry). limit_of xs ≤ limit_of ys) limit_longer (list_at w.topics p) (list_at w'.topics p) (grown.topics p);
+  decision = λ x d h.
+      longer (λ (xs ys : List CoordEntry). decision_of (coord_skeletons xs) x ≡ Some d → decision_of (coord_skeletons ys) x ≡ Some d)
+      (λ xs more h. subst (λ (c : List CoreEntry). decision_of c x ≡ Some d) (sym (map_append coord_skeleton xs more)) (decision_stays (coord_skeletons xs) (coord_skeletons more) x d h)) w.coord w'.coord grown.coord h;
+}
+
+pub keeps_promises : (names : List (List ℕ)) (floor : World) (files : Files) → StandsAbove names floor files → KeepsPromises names floor files
+keeps_promises names floor files above = record {
+  world = above.world;
+  stands = above.stands;
+  promises = promised above.world above.lawful;
+  lasts = lapsed floor above.world above.extends;
+}
