@@ -9,8 +9,6 @@ mod odd_json;
 mod plain;
 mod refusals;
 mod statuses;
-mod transaction_stops;
-mod transactions;
 
 pub const PUBLISH_A: &str = r#"{"do":"publish","topic":"orders","data":"a"}
 "#;

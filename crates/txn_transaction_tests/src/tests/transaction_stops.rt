@@ -1,10 +1,12 @@
 //! Runs with transactions over files that aren't lawful, over disks whose calls fail, and after stops of the machine.
-use super::READ;
-use crate::{Ran, run_lines};
 use std::alloc::{AllocError, Global};
 use txn_base::Limits;
 use txn_fixtures::{LOG, Short, TOPIC, log_file, topic_file};
 use txn_memdisk::{Choice, FaultAt, MemDisk, Op};
+use txn_run_tests::{Ran, run_lines};
+
+const READ: &str = r#"{"do":"read","topic":"orders","from":0,"max":10}
+"#;
 
 /// A disk with this log and this ledger of the topic.
 fn disk_of(alloc: Global, log: &[Short], topic: &[Short]) -> Result<MemDisk, AllocError> {

@@ -1,11 +1,11 @@
 //! Transactions, as lines and what is told of them.
 ghost use Rattle.txn_base.specs.Limits.{InRange};
 
-use crate::{Ran, run_at, run_lines};
 use std::alloc::{AllocError, Global};
 use txn_base::Limits;
 use txn_fixtures::{LOG, TOPIC, log_file, topic_file, with_log, with_message, with_window};
 use txn_memdisk::MemDisk;
+use txn_run_tests::{Ran, run_at, run_lines};
 
 /// A run over an empty disk.
 fn told(alloc: Global, limits: &Limits, input: &str) -> Result<Ran, AllocError>
