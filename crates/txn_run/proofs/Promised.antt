@@ -1,14 +1,12 @@
 -- A lawful world keeps the promises, and one that extends another lets nothing lapse.
-use Rattle.std.proofs.Common.{◌≡◌, ℕ, ◌≤◌, List, ◌∷◌, ◌++◌, length, Some, sym, subst}
+use Rattle.std.proofs.Common.{◌≡◌, ℕ, ◌≤◌, List, ◌++◌, length, Some, sym, subst}
 use mathlib.Core.List.{IsPrefix}
 use Rattle.txn_base.specs.declared.core_entry.CoreEntry.{CoreEntry}
 use Rattle.txn_base.specs.declared.entry.CoordEntry.{CoordEntry}
 use Rattle.txn_base.specs.declared.entry.TopicEntry.{TopicEntry}
-use Rattle.txn_base.specs.declared.txn.Decision.{Decision}
-use Rattle.txn_base.specs.declared.txn.TxnId.{TxnId}
 use Rattle.txn_base.specs.Disk.{Files}
 use Rattle.txn_model.specs.declared.world.World.{World}
-use Rattle.txn_model.specs.Coord.{CoordLawful, decision_of, decision_skeleton}
+use Rattle.txn_model.specs.Coord.{CoordLawful, decision_of}
 use Rattle.txn_model.specs.Skeletons.{coord_skeleton, coord_skeletons}
 use Rattle.txn_model.specs.World.{Lawful, Extends}
 use Rattle.txn_model.specs.Words.{list_at}
