@@ -14,6 +14,7 @@ use Rattle.txn_model.specs.Drive.{Rebuilds, RebuildsAll, RefusedAt}
 use Rattle.txn_model.specs.EarlyRows.{early_refusal}
 use Rattle.txn_model.specs.LateRows.{late_refusal}
 use Rattle.txn_model.specs.Names.{name_of}
+use Rattle.txn_model.specs.Replies.{is_fault}
 use Rattle.txn_model.specs.Successes.{success_of}
 use Rattle.txn_model.specs.Table.{TableState, Batch, is_fenced, at_moment}
 use Rattle.txn_engine.specs.Causes.{first_row, IsByRow}
@@ -38,10 +39,23 @@ not_both e h = cc
 by_row : (a row : Refusal) → (IsByRow a → ⊥) → IsByRow row → (told : Reply) → told ≡ reply.No a → told ≡ reply.No row → ⊥
 by_row a row none by told e is = none (subst IsByRow (sym (same_row a row (sym e ∙ is))) by)
 
+-- It isn't that of a fault.
+abbrev NotFault : Refusal → Type 0
+NotFault row = (part : List ℕ) → row ≡ no.Fault part → ⊥
+
+by_not_fault : (row : Refusal) → IsByRow row → NotFault row
+by_not_fault row by part e = subst IsByRow e by
+
+pub quiet_not_fault : (row : Refusal) (told : Reply) → told ≡ reply.No row → is_fault told ≡ false → NotFault row
+quiet_not_fault row told is quiet part e = not_both (ap (λ (x : Refusal). is_fault (reply.No x)) e) (ap is_fault (sym is) ∙ quiet)
+
+fault_told : (part : List ℕ) (row : Refusal) → NotFault row → (told : Reply) → told ≡ reply.No (no.Fault part) → told ≡ reply.No row → ⊥
+fault_told part row not told e is = not part (same_row row (no.Fault part) (sym is ∙ e))
+
 -- ---- What a request that isn't refused is told.
 
-fails_not : (rose : ℕ → Type 0) (b : Batch) (t : TableState) (told : Reply) (t' : TableState) → AppendFails rose b t told t' → (row : Refusal) → IsByRow row → told ≡ reply.No row → ⊥
-fails_not rose b t told t' h row by is = by_row (no.Fault (name_of t.world.names h.0)) row (λ x. x) by told h.3 is
+fails_not : (rose : ℕ → Type 0) (b : Batch) (t : TableState) (told : Reply) (t' : TableState) → AppendFails rose b t told t' → (row : Refusal) → NotFault row → told ≡ reply.No row → ⊥
+fails_not rose b t told t' h row not is = fault_told (name_of t.world.names h.0) row not told h.3 is
 
 -- a reply that tells something else than a refusal
 abbrev is_refusal : Reply → Bool
@@ -51,7 +65,7 @@ is_refusal _ = false
 other_reply : (told said : Reply) (row : Refusal) → is_refusal said ≡ false → told ≡ said → told ≡ reply.No row → ⊥
 other_reply told said row kind e is = not_both (sym (ap is_refusal (sym is ∙ e))) kind
 
-success_not : (limits : Limits) (rose : ℕ → Type 0) (t : TableState) (r : Request) → IsAsked r → (told : Reply) (t' : TableState) → Succeeds limits rose t r told t' → (row : Refusal) → IsByRow row → told ≡ reply.No row → ⊥
+success_not : (limits : Limits) (rose : ℕ → Type 0) (t : TableState) (r : Request) → IsAsked r → (told : Reply) (t' : TableState) → Succeeds limits rose t r told t' → (row : Refusal) → NotFault row → told ≡ reply.No row → ⊥
 success_not limits rose t (request.New timeout) asked told t' (inl h) row by is = other_reply told (success_of limits t (request.New timeout)).reply row refl h.0 is
 success_not limits rose t (request.New timeout) asked told t' (inr h) row by is = fails_not rose (success_of limits t (request.New timeout)).adds t told t' h row by is
 success_not limits rose t (request.Add x part) asked told t' (inl h) row by is = other_reply told (success_of limits t (request.Add x part)).reply row refl h.0 is
@@ -123,7 +137,7 @@ module _ (limits : Limits) (rose : ℕ → Type 0) (t : TableState) (whole : (p 
   by_its_row told t' (unrecovered e p h grew o) row by is = absurd (never_refused (uses t.world r) p t' h)
   by_its_row told t' (unread e mid all h) row by is = absurd (by_row (no.Fault (name_of mid.world.names h.0)) row (λ x. x) by told h.3 is)
   by_its_row told t' (late e all first l o) row by is = by_early None e ∙ by_late t' all (Some first) l ∙ ap (λ (x : Refusal). Some x) (same_row first row (sym o ∙ is))
-  by_its_row told t' (granted e mid all l s) row by is = absurd (success_not limits rose mid r asked told t' s row by is)
+  by_its_row told t' (granted e mid all l s) row by is = absurd (success_not limits rose mid r asked told t' s row (by_not_fault row by) is)
   by_its_row told t' (no_memory o s) row by is = absurd (by_row no.NoMemory row (λ x. x) by told o is)
   by_its_row told t' (no_memory_later e o s) row by is = absurd (by_row no.NoMemory row (λ x. x) by told o is)
 
@@ -136,6 +150,17 @@ module _ (limits : Limits) (rose : ℕ → Type 0) (t : TableState) (whole : (p 
   row_is_told told t' (granted e mid all l s) row is = absurd (none_some row (sym (by_early None e ∙ by_late mid all None l) ∙ is))
   row_is_told told t' (no_memory o s) row is = inr o
   row_is_told told t' (no_memory_later e o s) row is = inr o
+
+  -- what is refused leaves the table as it was, but for a fault
+  pub refused_changes_nothing : (told : Reply) (t' : TableState) → Answers limits rose t r told t' → (row : Refusal) → NotFault row → told ≡ reply.No row → t' ≡ t
+  refused_changes_nothing told t' (early first e o s) row not is = s
+  refused_changes_nothing told t' (unrecovered e p h grew o) row not is = absurd (never_refused (uses t.world r) p t' h)
+  refused_changes_nothing told t' (unread e mid all h) row not is = absurd (fault_told (name_of mid.world.names h.0) row not told h.3 is)
+  refused_changes_nothing told t' (late e all first l o) row not is = all_same (uses t.world r) t' all
+  refused_changes_nothing told t' (granted e mid all l s) row not is = absurd (success_not limits rose mid r asked told t' s row not is)
+  refused_changes_nothing told t' (no_memory o s) row not is = s
+  refused_changes_nothing told t' (no_memory_later e o (inl h)) row not is = absurd (never_refused (uses t.world r) h.0 t' h.1)
+  refused_changes_nothing told t' (no_memory_later e o (inr all)) row not is = all_same (uses t.world r) t' all
 
 -- ---- Over an engine whose parts are rebuilt, at a moment.
 
@@ -152,3 +177,6 @@ module _ (v : EngineView) (whole : IsWhole v) (rose : ℕ → Type 0) (r : Reque
 
   pub causes_clause : (row : Refusal) → first_row v.limits (moved r m (table_of v)) r ≡ Some row → (told ≡ reply.No row) ⊎ (told ≡ reply.No no.NoMemory)
   causes_clause row is = row_is_told v.limits rose (moved r m (table_of v)) (whole_moved v whole r m) r asked told t' answers row is
+
+  pub unchanged_clause : (row : Refusal) → told ≡ reply.No row → is_fault told ≡ false → t' ≡ moved r m (table_of v)
+  unchanged_clause row is quiet = refused_changes_nothing v.limits rose (moved r m (table_of v)) (whole_moved v whole r m) r asked told t' answers row (quiet_not_fault row told is quiet) is

@@ -1,5 +1,5 @@
 //! The answer to one request.
-ghost use Rattle.std.specs.Prelude.{◌≡◌, ◌⊎◌, true, length, Some};
+ghost use Rattle.std.specs.Prelude.{◌≡◌, ◌⊎◌, true, false, length, Some};
 ghost use Rattle.txn_base.specs.Disk.{Files, Since};
 ghost use Rattle.txn_base.specs.declared.reply.Reply.TheVariants as reply;
 ghost use Rattle.txn_base.specs.declared.reply.Refusal.TheVariants as no;
@@ -42,6 +42,9 @@ impl Engine {
         // place.
         ensures rows { D.tells → IsTied self.old → (row : Refusal) → IsByRow row → result ≡ reply.No row → first_row self.old.limits (moved request.now now (table_of self.old)) request.now ≡ Some row }
         ensures causes { D.tells → IsTied self.old → (row : Refusal) → first_row self.old.limits (moved request.now now (table_of self.old)) request.now ≡ Some row → (result ≡ reply.No row) ⊎ (result ≡ reply.No no.NoMemory) }
+
+        // A refusal but for a fault adds no entry: at most the moment of the line counts as told.
+        ensures unchanged { D.tells → IsTied self.old → (row : Refusal) → result ≡ reply.No row → is_fault result ≡ false → table_of self.new ≡ moved request.now now (table_of self.old) }
         ensures tellable { IsTellable result }
         ensures names { self.new.names ≡ self.old.names }
         ensures limits { self.new.limits ≡ self.old.limits }

@@ -1,5 +1,5 @@
 use Rattle.txn_engine.specs.Table.{table_of}
-use Rattle.txn_engine.proofs.Causes.{rows_clause, causes_clause}
+use Rattle.txn_engine.proofs.Causes.{rows_clause, causes_clause, unchanged_clause}
 use Rattle.txn_engine.proofs.Left.{left_kept}
 use Rattle.txn_engine.proofs.engine.Engine.answer.Goals as goal
 
@@ -13,3 +13,7 @@ returns-clause-rows g c = λ tells tied.
 pub returns-clause-causes : goal.returns-clause-causes
 returns-clause-causes g c = λ tells tied.
     causes_clause c.args.self.now c.requires.whole _ c.args.request.now c.requires.asked c.args.now c.reply_to-reply.result (table_of c.reply_to-reply.new.self) (c.reply_to-reply.ensures.answers tells tied)
+
+pub returns-clause-unchanged : goal.returns-clause-unchanged
+returns-clause-unchanged g c = λ tells tied.
+    unchanged_clause c.args.self.now c.requires.whole _ c.args.request.now c.requires.asked c.args.now c.reply_to-reply.result (table_of c.reply_to-reply.new.self) (c.reply_to-reply.ensures.answers tells tied)
