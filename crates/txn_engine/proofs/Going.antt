@@ -39,7 +39,7 @@ pub counts_of : (n part f g : ℕ) (fs gs : ℕ → ℕ) (X Y : Type 0) → part
 counts_of n part f g fs gs X Y within means h = record {
   later = h.later;
   parts_later = h.parts_later;
-  failed = λ y. (h.failed (means y)).0;
+  failed = λ y. (part, within, h.failed (means y));
   others = λ p past most. h.others p most (λ same. apart p part n within past same);
 }
   where
@@ -53,7 +53,7 @@ pub counts_then : (n f g h : ℕ) (fs gs hs : ℕ → ℕ) (X Y : Type 0) → Co
 counts_then n f g h fs gs hs X Y one two = record {
   later = omega (arith, one.later, two.later);
   parts_later = λ p. omega (arith, one.parts_later p, two.parts_later p);
-  failed = λ y. rose_then f g h one.later (two.failed y);
+  failed = λ y. let r = two.failed y in (r.0, r.1, (rose_then f g h one.later r.2.0, rose_then (fs r.0) (gs r.0) (hs r.0) (one.parts_later r.0) r.2.1));
   others = λ p past most. two.others p past most ∙ one.others p past most;
 }
 

@@ -38,12 +38,12 @@ pub record MayTell (before now : ℕ) (parts_before parts_now : ℕ → ℕ) (v 
 abbrev pub IsTellable : Reply → Type 0
 IsTellable r = is_long r ≡ false → IsShort r
 
--- A call on the files of n parts and of the coordinator may answer a fault, which comes only where the count rose. No count
--- falls, and those of other parts stay.
+-- A call on the files of n parts and of the coordinator may answer a fault, which comes only where the count rose, and that of
+-- one of these parts. No count falls, and those of other parts stay.
 pub record CountsWithin (n before now : ℕ) (parts_before parts_now : ℕ → ℕ) (is_fault : Type 0) : Type 0 where
   pub later : before ≤ now
   pub parts_later : (p : ℕ) → parts_before p ≤ parts_now p
-  pub failed : is_fault → Rose before now
+  pub failed : is_fault → (p : ℕ) × (p ≤ n) × RoseFor before now parts_before parts_now p
   pub others : (p : ℕ) → n < p → p < 64 → parts_now p ≡ parts_before p
 
 -- From v to v', over these disks, all that was rebuilt stays so, or a fault is told; what is rebuilt stays tied to the

@@ -36,6 +36,6 @@ counts_then names other f g h fs gs hs X Y same one call =
     record {
       later = omega (arith, one.later, two.later);
       parts_later = λ p. omega (arith, one.parts_later p, two.parts_later p);
-      failed = λ y. rose_then f g h one.later (two.failed y);
+      failed = λ y. let r = two.failed y in (r.0, r.1, (rose_then f g h one.later r.2.0, rose_then (fs r.0) (gs r.0) (hs r.0) (one.parts_later r.0) r.2.1));
       others = λ p past most. two.others p past most ∙ one.others p past most;
     }
