@@ -7,8 +7,8 @@ use Rattle.std.specs.Prelude.{All}
 use Rattle.byteorder.specs.Endian.{big_bytes}
 use Rattle.txn_base.specs.Frames.{Batch, IsBatch, IsDamagedAt, body_of, frame, frames, records, Stands}
 use Rattle.txn_base.proofs.Moments.{goes_on}
-use Rattle.txn_base.proofs.Unique.{stands_one}
-use Rattle.txn_ledger.specs.Found.{KeepsList}
+use Rattle.txn_base.proofs.Unique.{stands_one, stands_not_damaged}
+use Rattle.txn_ledger.specs.Found.{KeepsList, KeepsDamaged}
 use Rattle.txn_ledger.proofs.InFlight.{cut_stands}
 use Rattle.txn_ledger.proofs.Bodies.{frame_length}
 use Rattle.txn_ledger.proofs.Frames.{frames-push}
@@ -41,6 +41,10 @@ module _ (x : List ℕ) (batches : List Batch) (end len : ℕ) (body : List ℕ)
     no_frame = λ batch after is e. none batch is (frame_body (drop end x) len body head behind small batch after is (head ∙ e));
     before = before;
   }
+
+-- a file that was seen to stand for batches isn't damaged
+pub not_damaged : (file : FileId) (before seen after : Files) (batches : List Batch) → seen ≡ before → Stands (seen file) batches → KeepsDamaged (before file) (after file)
+not_damaged file before seen after batches same stands = λ entry damaged. absurd (stands_not_damaged (before file) batches entry (subst (λ (f : Files). Stands (f file) batches) same stands) damaged)
 
 -- the calls that look at a file, and then cut it behind the frames that it was seen to have
 module _ {D : Type 0} (moment : D → ℕ) (image : D → Files → Type 0) (left_since : D → ℕ → Files → Type 0) (file : FileId) (old mid new : D) (looked : Since moment image left_since Same old mid)

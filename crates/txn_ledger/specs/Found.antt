@@ -1,7 +1,7 @@
 -- What stands behind the frames of a file that were read so far.
 use Rattle.std.specs.Prelude.{◌≡◌, ℕ, ◌+◌, ◌*◌, ◌≤◌, List, ◌∷◌, ◌++◌, length, take, drop}
 use Rattle.byteorder.specs.Endian.{big_bytes}
-use Rattle.txn_base.specs.Frames.{Batch, IsBatch, IsShut, Stands, frame}
+use Rattle.txn_base.specs.Frames.{Batch, IsBatch, IsShut, IsDamagedAt, Stands, frame}
 use Rattle.txn_ledger.specs.declared.parse.Head.{Head}
 use Rattle.txn_ledger.specs.declared.parse.Head.TheVariants.{Body, End, NoFrame}
 
@@ -31,3 +31,7 @@ pub record IsPiece (tells : Type 0) (file : List ℕ) (size at : ℕ) (bytes : L
 -- What the bytes before stand for, the bytes after do.
 abbrev pub KeepsList : List ℕ → List ℕ → Type 0
 KeepsList before after = (batches : List Batch) → Stands before batches → Stands after batches
+
+-- Bytes in which an open gate begins no frame stay as they were.
+abbrev pub KeepsDamaged : List ℕ → List ℕ → Type 0
+KeepsDamaged before after = (entry : ℕ) → IsDamagedAt before entry → after ≡ before

@@ -3,7 +3,7 @@ ghost use Rattle.std.specs.Prelude.{◌≡◌, ℕ, [], Err, IfOk, length};
 ghost use Rattle.txn_base.specs.Content.{settled, Backed};
 ghost use Rattle.txn_base.specs.Disk.{Elsewhere, Changes, Since, CountsFaults};
 ghost use Rattle.txn_base.specs.Frames.{IsDamagedAt, frames};
-ghost use Rattle.txn_ledger.specs.Found.{KeepsList};
+ghost use Rattle.txn_ledger.specs.Found.{KeepsList, KeepsDamaged};
 ghost use Rattle.txn_ledger.specs.Ledger.{StandsIn};
 
 use crate::encode::{add_positions, encode};
@@ -78,6 +78,9 @@ impl Ledger {
         ensures told { D.tells → IfOk result (λ ledger. StandsIn file (D.seen disk.old) ledger.content.batches) }
         ensures cut { D.tells → IfOk result (λ ledger. length (D.seen disk.new file) ≡ length (frames ledger.content.batches)) }
         ensures damaged { (entry : ℕ) → result ≡ Err (OpenError.Damaged entry) → D.tells → IsDamagedAt (D.seen disk.old file) entry }
+
+        // Of a damaged file nothing is cut off.
+        ensures uncut { D.tells → KeepsDamaged (D.seen disk.old file) (D.seen disk.new file) }
 
         // Each image at any moment of the call stands for what an image at the call stood for.
         ensures images { Since D.moment D.image D.left_since (Changes file KeepsList) disk.old disk.new }

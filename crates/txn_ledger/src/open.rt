@@ -3,7 +3,7 @@ ghost use Rattle.std.specs.Prelude.{◌≡◌, ℕ, Err, length, IfOk};
 ghost use Rattle.txn_base.specs.Content.{Backed};
 ghost use Rattle.txn_base.specs.Disk.{Elsewhere, Changes, Since, CountsFaults};
 ghost use Rattle.txn_base.specs.Frames.{IsDamagedAt, frames};
-ghost use Rattle.txn_ledger.specs.Found.{KeepsList};
+ghost use Rattle.txn_ledger.specs.Found.{KeepsList, KeepsDamaged};
 ghost use Rattle.txn_ledger.specs.Ledger.{StandsIn};
 ghost use Rattle.txn_ledger.specs.Tied.{IsScanned};
 
@@ -22,6 +22,7 @@ pub fn find<D: Disk>(alloc: Global, disk: &mut D, file: FileId) -> Result<Found,
     ensures told { D.tells → IfOk result (λ found. StandsIn file (D.seen disk.old) found.carrier.content.batches) }
     ensures cut { D.tells → IfOk result (λ found. length (D.seen disk.new file) ≡ length (frames found.carrier.content.batches)) }
     ensures damaged { (entry : ℕ) → result ≡ Err (OpenError.Damaged entry) → D.tells → IsDamagedAt (D.seen disk.old file) entry }
+    ensures uncut { D.tells → KeepsDamaged (D.seen disk.old file) (D.seen disk.new file) }
     ensures images { Since D.moment D.image D.left_since (Changes file KeepsList) disk.old disk.new }
     ensures others { Elsewhere file (D.seen disk.old) (D.seen disk.new) }
     ensures cause { CountsFaults file.part (D.faults disk.old) (D.faults disk.new) (D.part_faults disk.old) (D.part_faults disk.new) (result ≡ Err OpenError.Fault) }
