@@ -6,3 +6,4 @@ pub mod Staged
 pub mod Tables
 pub mod Tied
 pub mod Visible
+pub mod BatchRecords

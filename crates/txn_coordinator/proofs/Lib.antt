@@ -8,3 +8,4 @@ pub mod Records
 pub mod Replayed
 pub mod Rows
 pub mod Steps
+pub mod BatchRecords
