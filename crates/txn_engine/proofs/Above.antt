@@ -25,6 +25,7 @@ use Rattle.txn_model.proofs.FlightsOver.{batch_choice}
 use Rattle.txn_model.proofs.Grows.{extends_both, batch_grows}
 use Rattle.txn_model.proofs.OneWorld.{records_behind}
 use Rattle.txn_buffer.specs.View.{TopicView, batch_of}
+use Rattle.txn_coordinator.proofs.BatchRecords.{entry_records}
 use Rattle.txn_coordinator.specs.View.{coord_batch}
 use Rattle.txn_engine.specs.Above.{StandsAbove, KeepsAbove}
 use Rattle.txn_engine.specs.Kept.{IsEngine}
@@ -87,7 +88,7 @@ module _ (v : EngineView) (is : IsEngine v) (whole : IsWhole v) (image : Files �
         with_batch floor c (in_coord e) found.1 found.2 (allowed found.1)
         (coord_append_stands v.names d c (world_of v) found.0 e elsewhere
         (more_stands IsCoordRecord (d (ledger_file 0)) (c (ledger_file 0)) v.coord.content.batches (coord_entries v.coord.content.batches) found.0.coord before (coord_batch e ∷ []) (e ∷ [])
-        (subst (λ (f : FileId). Stands (c f) (v.coord.content.batches ++ coord_batch e ∷ [])) is.coord.key more) (record { bytes_are = refl; fits = fits }, tt))))
+        (subst (λ (f : FileId). Stands (c f) (v.coord.content.batches ++ coord_batch e ∷ [])) is.coord.key more) (entry_records e fits))))
         step.here
 
   -- entries of a topic

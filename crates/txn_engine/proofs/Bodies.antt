@@ -1,5 +1,5 @@
 -- The bodies of a publish.
-use Rattle.std.proofs.Common.{◌≡◌, ℕ, ◌+◌, ◌<◌, ◌≤◌, ◌||◌, nat_lt, Bool, true, false, List, [], ◌∷◌, ◌++◌, length, take, Option, Some, None, All, IsUtf8, refl, sym, ap, ap₂, ◌∙◌, subst, arith, append-nil}
+use Rattle.std.proofs.Common.{◌≡◌, ℕ, ◌+◌, ◌<◌, ◌≤◌, ◌||◌, nat_lt, Bool, true, false, List, [], ◌∷◌, ◌++◌, length, take, All, IsUtf8, refl, sym, ap, ap₂, ◌∙◌, subst, arith}
 use Rattle.std.proofs.Math.ListN.{get_or}
 use Rattle.std.proofs.lemmas.Bool.Decides.{nat_tests}
 use Rattle.std.proofs.lemmas.Grind.{take_at_read}
@@ -10,12 +10,10 @@ use Rattle.txn_base.specs.Bytes.{contents_of}
 use Rattle.txn_base.specs.Decoded.{topic_entry_of, topic_entries}
 use Rattle.txn_base.specs.Frames.{records}
 use Rattle.txn_base.specs.Limits.{InRange}
-use Rattle.txn_base.specs.Records.{IsTxnId}
 use Rattle.txn_base.specs.Room.{Roomy}
 use Rattle.txn_base.specs.declared.entry.TopicEntry.{TopicEntry}
 use Rattle.txn_base.specs.declared.limits.Limits.{Limits}
-use Rattle.txn_base.specs.declared.txn.TxnId.{TxnId}
-use Rattle.txn_buffer.specs.Adding.{IsBodyWithin, AreBodies, messages_of}
+use Rattle.txn_buffer.specs.Adding.{IsBodyWithin, AreBodies}
 use Rattle.txn_buffer.specs.View.{batch_of}
 use Rattle.txn_model.specs.EarlyRows.{are_too_big}
 use Rattle.txn_model.specs.Sound.{RecordsOf, IsBareRecord}
@@ -55,26 +53,6 @@ are_bodies limits own asked bodies same range e texts small some =
     }))
 
 -- ---- Their records.
-
--- The transaction of a message has numbers of 64 bits.
-abbrev pub IsInside : Option TxnId → Type 0
-IsInside None = Unit {0}
-IsInside (Some x) = IsTxnId x
-
-module _ (limits : Limits) (range : InRange limits) where
-  bare_records : (who : Option TxnId) → IsInside who → (bodies : List (List ℕ)) → All (IsBodyWithin limits) bodies → RecordsOf IsBareRecord (batch_of (messages_of who bodies)) (messages_of who bodies)
-  bare_records who inside [] h = tt
-  bare_records None inside (b ∷ bs) h =
-      let one : IsBodyWithin limits b = All-head (IsBodyWithin limits) b bs h in
-      let size : length b ≤ limits.message = one.size in
-      (record { of_entry = record { bytes_are = refl; fits = record { text = one.text; size = omega (arith, size, range.message) } }; no_room = refl }, bare_records None inside bs (All-tail (IsBodyWithin limits) b bs h))
-  bare_records (Some x) inside (b ∷ bs) h =
-      let one : IsBodyWithin limits b = All-head (IsBodyWithin limits) b bs h in
-      let size : length b ≤ limits.message = one.size in
-      (record { of_entry = record { bytes_are = refl; fits = (inside, record { text = one.text; size = omega (arith, size, range.message) }) }; no_room = refl }, bare_records (Some x) inside bs (All-tail (IsBodyWithin limits) b bs h))
-
-  pub batch_records : (who : Option TxnId) → IsInside who → (bodies : List (List ℕ)) → All (IsBodyWithin limits) bodies → RecordsOf IsBareRecord (records (batch_of (messages_of who bodies) ∷ [])) (messages_of who bodies)
-  batch_records who inside bodies each = subst (λ rs. RecordsOf IsBareRecord rs (messages_of who bodies)) (sym (append-nil (batch_of (messages_of who bodies)))) (bare_records who inside bodies each)
 
 -- what a batch of such records is read as
 pub entries_back : (es : List TopicEntry) → RecordsOf IsBareRecord (records (batch_of es ∷ [])) es → topic_entries (batch_of es ∷ []) ≡ es

@@ -9,6 +9,7 @@ use Rattle.txn_base.specs.declared.reply.Why.TheVariants as why
 use Rattle.txn_base.specs.declared.txn.TxnId.{TxnId}
 use Rattle.txn_base.specs.declared.txn.Decision.{Decision}
 use Rattle.txn_base.specs.declared.txn.Status.{Status}
+use Rattle.txn_coordinator.specs.View.{CoordView}
 use Rattle.txn_model.specs.Coord.{decision_of, closing_of, parts_of, closed, deciding}
 use Rattle.txn_model.specs.Drive.{MarksAll, StopsWithin, Drives, already, closes, close_fault, stops, ended}
 use Rattle.txn_model.specs.Names.{name_of}
@@ -24,6 +25,10 @@ use Rattle.txn_engine.proofs.Going.{rose_then}
 use Rattle.txn_engine.proofs.Marks.{name_here, name_form}
 use Rattle.txn_engine.proofs.TopicNames.{part_name}
 use Rattle.txn_engine.proofs.Whole.{whole_table, table_is}
+
+-- Over the same coordinator the decision stands.
+pub decided_after : (c c' : CoordView) → c' ≡ c → (x : TxnId) (d : Decision) → decision_of (coord_skeletons c.front) x ≡ Some d → decision_of (coord_skeletons c'.front) x ≡ Some d
+decided_after c c' same x d decided = subst (λ (z : CoordView). decision_of (coord_skeletons z.front) x ≡ Some d) (sym same) decided
 
 -- An end that a fault of this part stopped.
 abbrev pub stuck_by : Decision → List ℕ → Outcome

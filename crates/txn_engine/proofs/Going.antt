@@ -7,7 +7,7 @@ use Rattle.txn_base.specs.declared.entry.TopicEntry.{TopicEntry}
 use Rattle.txn_base.specs.declared.file_id.FileId.{FileId}
 use Rattle.txn_base.specs.declared.limits.Limits.{Limits}
 use Rattle.txn_base.specs.Content.{LedgerContent, KeptOrNot, Appends, Backed}
-use Rattle.txn_base.specs.Disk.{Files, Since, CountsFaults}
+use Rattle.txn_base.specs.Disk.{Files, Elsewhere, Since, CountsFaults}
 use Rattle.txn_base.specs.Frames.{Batch as FrameBatch, records, Stands}
 use Rattle.txn_base.specs.Outside.{Rose}
 use Rattle.txn_base.specs.Records.{IsCoordEntry}
@@ -22,11 +22,13 @@ use Rattle.txn_buffer.specs.View.{TopicView, batch_of}
 use Rattle.txn_coordinator.specs.View as coordinator
 use Rattle.txn_coordinator.specs.View.{CoordView, coord_batch}
 use Rattle.txn_engine.specs.Above.{StandsAbove, KeepsAbove, KeepsAboveIf}
+use Rattle.txn_engine.specs.Files.{OnlyLedgers}
 use Rattle.txn_engine.specs.Kept.{AreTopics, IsEngine}
 use Rattle.txn_engine.specs.Table.{world_of}
 use Rattle.txn_engine.specs.Told.{CountsWithin, Goes}
 use Rattle.txn_engine.specs.View.{EngineView, IsWhole, IsTied, IsBacked, replaced}
 use Rattle.txn_engine.proofs.Above.{coord_above, topic_above}
+use Rattle.txn_engine.proofs.Files.{only_one, only_then, images_append, images_then}
 use Rattle.txn_engine.proofs.Lists.{at_index, all_replaced}
 use Rattle.txn_engine.proofs.Worlds.{some_topic}
 
@@ -108,9 +110,9 @@ module _ {D : Type 0} (moment : D → ℕ) (image : D → Files → Type 0) (lef
 
   -- ---- Going on.
 
-  module _ (faults : D → ℕ) (part_faults : D → ℕ → ℕ) where
+  module _ (seen : D → Files) (faults : D → ℕ) (part_faults : D → ℕ → ℕ) where
     -- nothing happened to a part, or to the disk
-    pub goes_still : (X : Type 0) → (X → ⊥) → (v v' : EngineView) (disk : D) → IsWhole v → IsBacked (image disk) v → v'.names ≡ v.names → v'.coord ≡ v.coord → v'.topics ≡ v.topics → Goes moment image left_since faults part_faults X v v' disk disk
+    pub goes_still : (X : Type 0) → (X → ⊥) → (v v' : EngineView) (disk : D) → IsWhole v → IsBacked (image disk) v → v'.names ≡ v.names → v'.coord ≡ v.coord → v'.topics ≡ v.topics → Goes moment image left_since seen faults part_faults X v v' disk disk
     goes_still X none v v' disk whole backed names coord topics = record {
       names = names;
       whole = inl (record { coord = subst (λ (c : CoordView). IsTrue c.whole) (sym coord) whole.coord; topics = subst (λ (ts : List TopicView). All (λ t. IsTrue t.whole) ts) (sym topics) whole.topics });
@@ -120,11 +122,13 @@ module _ {D : Type 0} (moment : D → ℕ) (image : D → Files → Type 0) (lef
         topics = subst (λ (ts : List TopicView). All (λ t. Backed StandsIn (image disk) t.content) ts) (sym topics) backed.topics;
       };
       images = started moment image left_since disk (KeepsAboveIf (IsTied v) v.names) (λ c at tied floor above. above);
+      elsewhere = started moment image left_since disk (OnlyLedgers (length v.names)) (λ c at file apart. refl);
+      others = λ file apart. refl;
       cause = counts_still (length v.names) (faults disk) (part_faults disk) X none;
     }
 
     -- the same from a view with the same parts
-    pub goes_from : (X : Type 0) (u v v' : EngineView) (old new : D) → v.names ≡ u.names → v.coord ≡ u.coord → v.topics ≡ u.topics → Goes moment image left_since faults part_faults X v v' old new → Goes moment image left_since faults part_faults X u v' old new
+    pub goes_from : (X : Type 0) (u v v' : EngineView) (old new : D) → v.names ≡ u.names → v.coord ≡ u.coord → v.topics ≡ u.topics → Goes moment image left_since seen faults part_faults X v v' old new → Goes moment image left_since seen faults part_faults X u v' old new
     goes_from X u v v' old new names coord topics goes =
         let tied : IsTied u → IsTied v =
         λ was. record { coord = subst coordinator.IsFrontOf (sym coord) was.coord; topics = subst (All topic.IsFrontOf) (sym topics) was.topics } in
@@ -135,22 +139,26 @@ module _ {D : Type 0} (moment : D → ℕ) (image : D → Files → Type 0) (lef
           backed = goes.backed;
           images = weaker moment image left_since (KeepsAboveIf (IsTied v) v.names) (KeepsAboveIf (IsTied u) u.names) old new
               (λ d c at keeps was. subst (λ (ns : List (List ℕ)). KeepsAbove ns d c) names (keeps (tied was))) goes.images;
+          elsewhere = subst (λ (ns : List (List ℕ)). Since moment image left_since (OnlyLedgers (length ns)) old new) names goes.elsewhere;
+          others = subst (λ (ns : List (List ℕ)). OnlyLedgers (length ns) (seen old) (seen new)) names goes.others;
           cause = subst (λ (ns : List (List ℕ)). CountsWithin (length ns) (faults old) (faults new) (part_faults old) (part_faults new) X) names goes.cause;
         }
 
     -- by a word that means the same
-    pub goes_like : (X Y : Type 0) (v v' : EngineView) (old new : D) → (X → Y) → (Y → X) → Goes moment image left_since faults part_faults X v v' old new → Goes moment image left_since faults part_faults Y v v' old new
+    pub goes_like : (X Y : Type 0) (v v' : EngineView) (old new : D) → (X → Y) → (Y → X) → Goes moment image left_since seen faults part_faults X v v' old new → Goes moment image left_since seen faults part_faults Y v v' old new
     goes_like X Y v v' old new to from goes = record {
       names = goes.names;
       whole = ⊎_elim (λ yes. inl yes) (λ x. inr (to x)) goes.whole;
       tied = goes.tied;
       backed = goes.backed;
       images = goes.images;
+      elsewhere = goes.elsewhere;
+      others = goes.others;
       cause = record { later = goes.cause.later; parts_later = goes.cause.parts_later; failed = λ y. goes.cause.failed (from y); others = goes.cause.others };
     }
 
     -- one call after another, the first of which met no fault
-    pub goes_then : (X Y : Type 0) (u v w : EngineView) (old mid new : D) → Goes moment image left_since faults part_faults X u v old mid → Goes moment image left_since faults part_faults Y v w mid new → Goes moment image left_since faults part_faults Y u w old new
+    pub goes_then : (X Y : Type 0) (u v w : EngineView) (old mid new : D) → Goes moment image left_since seen faults part_faults X u v old mid → Goes moment image left_since seen faults part_faults Y v w mid new → Goes moment image left_since seen faults part_faults Y u w old new
     goes_then X Y u v w old mid new one two = record {
       names = two.names ∙ one.names;
       whole = two.whole;
@@ -160,6 +168,9 @@ module _ {D : Type 0} (moment : D → ℕ) (image : D → Files → Type 0) (lef
           (λ d c at keeps. keeps)
           (λ d e c at keeps mid_at more was floor above.
           subst (λ (ns : List (List ℕ)). StandsAbove ns floor c) one.names (more (one.tied was) floor (subst (λ (ns : List (List ℕ)). StandsAbove ns floor e) (sym one.names) (keeps was floor above))));
+      elsewhere = images_then moment image left_since (length u.names) old mid new one.elsewhere
+          (subst (λ (ns : List (List ℕ)). Since moment image left_since (OnlyLedgers (length ns)) mid new) one.names two.elsewhere);
+      others = only_then (length u.names) (seen old) (seen mid) (seen new) one.others (subst (λ (ns : List (List ℕ)). OnlyLedgers (length ns) (seen mid) (seen new)) one.names two.others);
       cause = counts_then (length u.names) (faults old) (faults mid) (faults new) (part_faults old) (part_faults mid) (part_faults new) X Y one.cause
           (subst (λ (ns : List (List ℕ)). CountsWithin (length ns) (faults mid) (faults new) (part_faults mid) (part_faults new) Y) one.names two.cause);
     }
@@ -167,9 +178,9 @@ module _ {D : Type 0} (moment : D → ℕ) (image : D → Files → Type 0) (lef
     module _ (v : EngineView) (is : IsEngine v) (whole : IsWhole v) (old new : D) (backed : IsBacked (image old) v) where
       -- an entry of the coordinator
       pub coord_goes : (X Y : Type 0) (e : CoordEntry) (v' : EngineView) → IsCoordEntry e → (IsTied v → Lawful (world_of v) → IsAllowed (in_coord e) (world_of v)) → v'.names ≡ v.names → v'.topics ≡ v.topics → IsTrue v'.coord.whole ⊎ X
-          → (coordinator.IsFrontOf v.coord → coordinator.IsFrontOf v'.coord) → Backed StandsIn (image new) v'.coord.content → Since moment image left_since (Appends IsFile StandsIn v.coord.content (coord_batch e)) old new
-          → CountsFaults v.coord.content.key.part (faults old) (faults new) (part_faults old) (part_faults new) Y → (X → Y) → Goes moment image left_since faults part_faults X v v' old new
-      coord_goes X Y e v' fits allowed names topics now tied coord_backed since cause means = record {
+          → (coordinator.IsFrontOf v.coord → coordinator.IsFrontOf v'.coord) → Backed StandsIn (image new) v'.coord.content → Since moment image left_since (Appends IsFile StandsIn v.coord.content (coord_batch e)) old new → Elsewhere v.coord.content.key (seen old) (seen new)
+          → CountsFaults v.coord.content.key.part (faults old) (faults new) (part_faults old) (part_faults new) Y → (X → Y) → Goes moment image left_since seen faults part_faults X v v' old new
+      coord_goes X Y e v' fits allowed names topics now tied coord_backed since others cause means = record {
         names = names;
         whole = ⊎_elim (λ yes. inl (record { coord = yes; topics = subst (λ (ts : List TopicView). All (λ t. IsTrue t.whole) ts) (sym topics) whole.topics })) (λ x. inr x) now;
         tied = λ was. record { coord = tied was.coord; topics = subst (All topic.IsFrontOf) (sym topics) was.topics };
@@ -180,6 +191,8 @@ module _ {D : Type 0} (moment : D → ℕ) (image : D → Files → Type 0) (lef
         };
         images = weaker moment image left_since (Appends IsFile StandsIn v.coord.content (coord_batch e)) (KeepsAboveIf (IsTied v) v.names) old new
             (λ d c at step was. coord_above v is whole (image old) backed e fits (allowed was) d c at step) since;
+        elsewhere = images_append moment image left_since (length v.names) 0 v.coord.content (coord_batch e) old new is.coord.key (omega arith) since;
+        others = only_one (length v.names) 0 v.coord.content.key (seen old) (seen new) is.coord.key (omega arith) others;
         cause = counts_of (length v.names) v.coord.content.key.part (faults old) (faults new) (part_faults old) (part_faults new) Y X
             (subst (λ (f : FileId). f.part ≤ length v.names) (sym is.coord.key) (omega arith)) means cause;
       }
@@ -191,9 +204,9 @@ module _ {D : Type 0} (moment : D → ℕ) (image : D → Files → Type 0) (lef
 
         pub topic_goes : (X Y : Type 0) (es : List TopicEntry) (t : TopicView) (v' : EngineView) → at.content.key ≡ ledger_file (1 + j) → RecordsOf IsBareRecord (records (batch_of es ∷ [])) es → (IsTied v → Lawful (world_of v) → IsAllowed (in_topic (1 + j) es) (world_of v))
             → v'.names ≡ v.names → v'.coord ≡ v.coord → v'.topics ≡ replaced v.topics j t → IsTrue t.whole ⊎ X
-            → (topic.IsFrontOf at → topic.IsFrontOf t) → Backed StandsIn (image new) t.content → Since moment image left_since (Appends IsFile StandsIn at.content (batch_of es)) old new
-            → CountsFaults at.content.key.part (faults old) (faults new) (part_faults old) (part_faults new) Y → (X → Y) → Goes moment image left_since faults part_faults X v v' old new
-        topic_goes X Y es t v' key each allowed names coord topics now tied here since cause means = record {
+            → (topic.IsFrontOf at → topic.IsFrontOf t) → Backed StandsIn (image new) t.content → Since moment image left_since (Appends IsFile StandsIn at.content (batch_of es)) old new → Elsewhere at.content.key (seen old) (seen new)
+            → CountsFaults at.content.key.part (faults old) (faults new) (part_faults old) (part_faults new) Y → (X → Y) → Goes moment image left_since seen faults part_faults X v v' old new
+        topic_goes X Y es t v' key each allowed names coord topics now tied here since others cause means = record {
           names = names;
           whole = ⊎_elim (λ yes. inl (record {
             coord = subst (λ (c : CoordView). IsTrue c.whole) (sym coord) whole.coord;
@@ -210,6 +223,8 @@ module _ {D : Type 0} (moment : D → ℕ) (image : D → Files → Type 0) (lef
           };
           images = weaker moment image left_since (Appends IsFile StandsIn at.content (batch_of es)) (KeepsAboveIf (IsTied v) v.names) old new
               (λ d c from step was. topic_above v is whole (image old) backed j below es each (allowed was) d c from step) since;
+          elsewhere = images_append moment image left_since (length v.names) (1 + j) at.content (batch_of es) old new key (omega (arith, below, is.count)) since;
+          others = only_one (length v.names) (1 + j) at.content.key (seen old) (seen new) key (omega (arith, below, is.count)) others;
           cause = counts_of (length v.names) at.content.key.part (faults old) (faults new) (part_faults old) (part_faults new) Y X
               (subst (λ (f : FileId). f.part ≤ length v.names) (sym key) (omega (arith, below, is.count))) means cause;
         }

@@ -5,6 +5,7 @@ pub mod TopicNames
 pub mod Worlds
 pub mod Above
 pub mod Left
+pub mod Files
 pub mod Going
 pub mod Rows
 pub mod TopicRows
@@ -13,6 +14,7 @@ pub mod Coordinators
 pub mod Begun
 pub mod BegunGoes
 pub mod AtView
+pub mod Damage
 pub mod Reading
 pub mod Published
 pub mod PublishedGoes
@@ -25,6 +27,8 @@ pub mod MarkLoop
 pub mod Reserved
 pub mod Closing
 pub mod Driving
+pub mod Faults
+pub mod Early
 pub mod Ended
 pub mod Causes
 pub mod OpeningFiles

@@ -75,7 +75,7 @@ rebuilds_here v whole p = by_test (is_fenced (table_of v) p) _ (not_fenced v who
 -- ---- The loop.
 
 -- From v to u, over these disks, the parts of x up to the index have their marker, and no other has one more.
-pub record MarksUpTo {D : Type 0} (moment : D → ℕ) (image : D → Files → Type 0) (left_since : D → ℕ → Files → Type 0) (faults : D → ℕ) (part_faults : D → ℕ → ℕ) (tells : Type 0) (x : TxnId) (d : Decision) (v u : EngineView) (old now : D) (at : ℕ) : Type 0 where
+pub record MarksUpTo {D : Type 0} (moment : D → ℕ) (image : D → Files → Type 0) (left_since : D → ℕ → Files → Type 0) (seen : D → Files) (faults : D → ℕ) (part_faults : D → ℕ → ℕ) (tells : Type 0) (x : TxnId) (d : Decision) (v u : EngineView) (old now : D) (at : ℕ) : Type 0 where
   pub within : at ≤ length u.topics
   pub count : length u.topics ≡ length v.topics
   pub few : length v.topics ≤ 62
@@ -85,11 +85,11 @@ pub record MarksUpTo {D : Type 0} (moment : D → ℕ) (image : D → Files → 
   pub ready : (j : ℕ) (t : TopicView) → at ≤ j → j < length u.topics → in_parts (coord_skeletons v.coord.front) x (1 + j) ≡ true → (slice_index_or u.topics j t).reserved ≡ 1
   pub given : AreMarked x u at
   pub marking : tells → IsTied v → Marking x d (parts_of (coord_skeletons v.coord.front) x) (rest_of (coord_skeletons v.coord.front) x at) (table_of v) (table_of u)
-  pub goes : Goes moment image left_since faults part_faults ⊥ v u old now
+  pub goes : Goes moment image left_since seen faults part_faults ⊥ v u old now
 
-module _ {D : Type 0} (moment : D → ℕ) (image : D → Files → Type 0) (left_since : D → ℕ → Files → Type 0) (faults : D → ℕ) (part_faults : D → ℕ → ℕ) (tells : Type 0) (x : TxnId) (d : Decision) where
+module _ {D : Type 0} (moment : D → ℕ) (image : D → Files → Type 0) (left_since : D → ℕ → Files → Type 0) (seen : D → Files) (faults : D → ℕ) (part_faults : D → ℕ → ℕ) (tells : Type 0) (x : TxnId) (d : Decision) where
   abbrev UpTo : EngineView → EngineView → D → D → ℕ → Type 0
-  UpTo v u old now at = MarksUpTo moment image left_since faults part_faults tells x d v u old now at
+  UpTo v u old now at = MarksUpTo moment image left_since seen faults part_faults tells x d v u old now at
 
   pub loop_starts : (v : EngineView) (old : D) → IsEngine v → IsWhole v → AreReady x v (length v.topics) → IsBacked (image old) v → UpTo v v old old 0
   loop_starts v old is whole ready backed = record {
@@ -102,7 +102,7 @@ module _ {D : Type 0} (moment : D → ℕ) (image : D → Files → Type 0) (lef
     ready = λ j t from below has. ready j t below below has;
     given = λ j t before. absurd (none j before);
     marking = λ told tied. marking_starts x d (parts_of (coord_skeletons v.coord.front) x) (table_of v);
-    goes = goes_still moment image left_since faults part_faults ⊥ (λ e. e) v v old whole backed refl refl refl;
+    goes = goes_still moment image left_since seen faults part_faults ⊥ (λ e. e) v v old whole backed refl refl refl;
   }
     where
       least : (n : ℕ) → 0 ≤ n
@@ -158,7 +158,7 @@ module _ {D : Type 0} (moment : D → ℕ) (image : D → Files → Type 0) (lef
           self : (k : ℕ) → k ≤ k
           self k = omega arith
 
-      module _ (w : EngineView) (new : D) (r : Result (Unit {0}) Failed) (elsewhere : IsElsewhere at u w) (goes : Goes moment image left_since faults part_faults (IsErr r) u w now new) where
+      module _ (w : EngineView) (new : D) (r : Result (Unit {0}) Failed) (elsewhere : IsElsewhere at u w) (goes : Goes moment image left_since seen faults part_faults (IsErr r) u w now new) where
         pub loop_marks : IsOk r → (tells → IsTied u → OnOk r (table_of w ≡ marked x d (1 + at) (table_of u))) → OnOk r ((t : TopicView) → is_some (marker_of (topic_skeletons (slice_index_or w.topics at t).front) x) ≡ true) → UpTo v w old new (at + 1)
         loop_marks is_ok ok stands = record {
           within = omega (arith, below, elsewhere.count);
@@ -173,7 +173,7 @@ module _ {D : Type 0} (moment : D → ℕ) (image : D → Files → Type 0) (lef
           marking = λ told tied.
               marking_more x d (parts_of log x) (1 + at) (rest_of log x at) (rest_of log x (at + 1)) (table_of v) (table_of u) (table_of w) (so.marking told tied) (rest_has log x at has few_here)
               (rebuilds_here u so.whole (1 + at)) (from_is_ok (ok told (so.goes.tied tied)));
-          goes = goes_like moment image left_since faults part_faults (IsErr r) ⊥ v w old new (λ err. no_err err) (λ e. absurd e) (goes_then moment image left_since faults part_faults ⊥ (IsErr r) v u w old now new so.goes goes);
+          goes = goes_like moment image left_since seen faults part_faults (IsErr r) ⊥ v w old new (λ err. no_err err) (λ e. absurd e) (goes_then moment image left_since seen faults part_faults ⊥ (IsErr r) v u w old now new so.goes goes);
         }
           where
             no_err : IsErr r → ⊥
@@ -226,8 +226,8 @@ module _ {D : Type 0} (moment : D → ℕ) (image : D → Files → Type 0) (lef
             (marker_fault (table_of u) (rebuilds_here u so.whole (1 + at)) failed.0
             (rose_then (faults old) (faults now) (faults new) so.goes.cause.later grew.0, rose_then (part_faults old (1 + at)) (part_faults now (1 + at)) (part_faults new (1 + at)) (so.goes.cause.parts_later (1 + at)) grew.1) failed.1 refl)
 
-        pub loop_fails : IsErr r → (Y : Type 0) → Y → Goes moment image left_since faults part_faults Y v w old new
-        loop_fails is_err Y y = goes_like moment image left_since faults part_faults (IsErr r) Y v w old new (λ err. y) (λ z. is_err) (goes_then moment image left_since faults part_faults ⊥ (IsErr r) v u w old now new so.goes goes)
+        pub loop_fails : IsErr r → (Y : Type 0) → Y → Goes moment image left_since seen faults part_faults Y v w old new
+        loop_fails is_err Y y = goes_like moment image left_since seen faults part_faults (IsErr r) Y v w old new (λ err. y) (λ z. is_err) (goes_then moment image left_since seen faults part_faults ⊥ (IsErr r) v u w old now new so.goes goes)
 
   -- over an equal engine and disk
   pub loop_at : (v u u' : EngineView) (old now now' : D) (at : ℕ) → u' ≡ u → now' ≡ now → UpTo v u old now at → UpTo v u' old now' at

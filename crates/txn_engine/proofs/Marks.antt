@@ -4,7 +4,7 @@ use Rattle.std.proofs.Math.ListN.{get_or}
 use Rattle.std.proofs.lemmas.Bool.Decides.{nat_tests}
 use Rattle.txn_base.specs.Content.{LedgerContent, settled, Appends, Backed}
 use Rattle.txn_base.specs.Disk.{Files, Since}
-use Rattle.txn_base.specs.Frames.{Batch as FrameBatch, records}
+use Rattle.txn_base.specs.Frames.{Batch as FrameBatch}
 use Rattle.txn_base.proofs.Moments.{started}
 use Rattle.txn_ledger.specs.Ledger.{IsFile, StandsIn}
 use Rattle.txn_base.specs.Names.{is_sub, is_topic_name}
@@ -13,13 +13,13 @@ use Rattle.txn_base.specs.declared.entry.TopicEntry.{TopicEntry}
 use Rattle.txn_base.specs.declared.txn.TxnId.{TxnId}
 use Rattle.txn_base.specs.declared.txn.Decision.{Decision}
 use Rattle.txn_base.specs.declared.txn.Decision.TheVariants.{Commit, Abort}
+use Rattle.txn_buffer.proofs.BatchRecords.{marker_records}
 use Rattle.txn_buffer.specs.View as topic
 use Rattle.txn_buffer.specs.View.{TopicView, batch_of, with_entries}
 use Rattle.txn_model.specs.Allowed.{IsAllowed}
 use Rattle.txn_model.specs.Coord.{decision_of}
 use Rattle.txn_model.specs.Names.{name_of}
 use Rattle.txn_model.specs.Skeletons.{coord_skeletons, topic_skeletons}
-use Rattle.txn_model.specs.Sound.{RecordsOf, IsBareRecord}
 use Rattle.txn_model.specs.Table.{Batch, nothing, in_topic, topic_marker, marker_batch, given_after, marked, fenced_by, settled as with_batch}
 use Rattle.txn_model.specs.Topic.{marker_of}
 use Rattle.txn_model.specs.Words.{nowhere}
@@ -37,15 +37,11 @@ use Rattle.txn_engine.proofs.TopicNames.{not_sub}
 use Rattle.txn_engine.proofs.Whole.{whole_world, whole_table, world_is}
 use Rattle.txn_engine.proofs.Worlds.{some_topic, name_at_index, stands_settled}
 
--- ---- The entry, and its record.
+-- ---- The entry.
 
 pub entry_is : (x : TxnId) (d : Decision) → marker_entry x d ≡ topic_marker x d
 entry_is x Commit = refl
 entry_is x Abort = refl
-
-pub marker_records : (x : TxnId) (d : Decision) → IsTxnId x → RecordsOf IsBareRecord (records (batch_of (marker_entry x d ∷ []) ∷ [])) (marker_entry x d ∷ [])
-marker_records x Commit fits = (record { of_entry = record { bytes_are = refl; fits = fits }; no_room = refl }, tt)
-marker_records x Abort fits = (record { of_entry = record { bytes_are = refl; fits = fits }; no_room = refl }, tt)
 
 -- ---- A ledger to which nothing is added.
 

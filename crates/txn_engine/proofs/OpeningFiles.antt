@@ -6,15 +6,15 @@ use Rattle.std.proofs.lemmas.List.Elements.{All-head, All-tail, All-cons, All-ni
 use Rattle.txn_base.specs.declared.file_id.FileId.{FileId}
 use Rattle.txn_base.specs.Content.{LedgerContent, Standing, settled, in_flight, looked_at, KeptOrNot, Backed, Settles}
 use Rattle.txn_base.specs.Disk.{Files, Elsewhere, Since, Changes, CountsFaults}
-use Rattle.txn_base.specs.Frames.{Batch, Stands}
+use Rattle.txn_base.specs.Frames.{Batch, Stands, IsDamagedAt}
 use Rattle.txn_base.specs.Outside.{Rose}
 use Rattle.txn_base.proofs.Moments.{goes_on, weaker}
-use Rattle.txn_base.proofs.Unique.{stands_one}
-use Rattle.txn_ledger.specs.Found.{KeepsList}
+use Rattle.txn_base.proofs.Unique.{stands_one, stands_not_damaged}
+use Rattle.txn_ledger.specs.Found.{KeepsList, KeepsDamaged}
 use Rattle.txn_ledger.specs.Ledger.{IsFile, StandsIn}
 use Rattle.txn_model.specs.Sound.{ledger_file, part_file, StandsForEntries}
 use Rattle.txn_buffer.specs.View.{TopicView}
-use Rattle.txn_engine.specs.Opening.{KeepsLists, KeepsWorld}
+use Rattle.txn_engine.specs.Opening.{KeepsLists, KeepsAllDamaged, KeepsWorld}
 
 -- ---- One file changes.
 
@@ -37,6 +37,22 @@ same_key c key file batches e h = subst (λ (f : FileId). Stands (c f) batches) 
 
 pub others_then : (key file : FileId) (a b c : Files) → key ≡ file → Elsewhere file a b → ((other : FileId) → (IsFile key other → ⊥) → c other ≡ b other) → Elsewhere file a c
 others_then key file a b c e one two other ne = two other (λ same. ne (same ∙ e)) ∙ one other ne
+
+-- ---- What is damaged stays.
+
+pub not_damaged : (before after : List ℕ) (batches : List Batch) → Stands before batches → KeepsDamaged before after
+not_damaged before after batches stands = λ entry damaged. absurd (stands_not_damaged before batches entry stands damaged)
+
+pub damaged_all : (key : FileId) (d c : Files) → Elsewhere key d c → KeepsDamaged (d key) (c key) → KeepsAllDamaged d c
+damaged_all key d c others here file = ⊎_elim
+    (λ same. subst (λ (f : FileId). KeepsDamaged (d f) (c f)) (sym same) here)
+    (λ apart entry damaged. others file apart)
+    (same_or_not file key)
+
+pub damaged_then : (before mid after : Files) → KeepsAllDamaged before mid → KeepsAllDamaged mid after → KeepsAllDamaged before after
+damaged_then before mid after one two file entry damaged =
+    let first : mid file ≡ before file = one file entry damaged in
+    two file entry (subst (λ (bytes : List ℕ). IsDamagedAt bytes entry) (sym first) damaged) ∙ first
 
 -- ---- A file keeps its list through a step of a replay with nothing in flight.
 
@@ -68,7 +84,7 @@ module _ {D : Type 0} (moment : D → ℕ) (image : D → Files → Type 0) (lef
   pub keeps_then : (old mid new : D) → Since moment image left_since KeepsLists old mid → Since moment image left_since KeepsLists mid new → Since moment image left_since KeepsLists old new
   keeps_then old mid new one two = goes_on moment image left_since KeepsLists KeepsLists KeepsLists old mid new one two (λ d c at is. is) (λ d e c at first mid_at second file batches stands. second file batches (first file batches stands))
 
-  backed_kept : (content : LedgerContent) (old new : D) → Since moment image left_since KeepsLists old new → Backed StandsIn (image old) content → Backed StandsIn (image new) content
+  pub backed_kept : (content : LedgerContent) (old new : D) → Since moment image left_since KeepsLists old new → Backed StandsIn (image old) content → Backed StandsIn (image new) content
   backed_kept content old new since backed = record { each = λ c at. let from = since.at_end c at in on content.standing from.0 c from.2 (backed.each from.0 from.1) }
     where
       on : (s : Standing) (d c : Files) → KeepsLists d c → KeptOrNot (StandsIn content.key d) content.batches s → KeptOrNot (StandsIn content.key c) content.batches s

@@ -28,6 +28,7 @@ use Rattle.txn_engine.specs.Kept.{IsTopic, IsEngine}
 use Rattle.txn_engine.specs.Told.{MayTell, RoseFor, Goes}
 use Rattle.txn_engine.specs.View.{EngineView, IsWhole, IsTied, IsBacked}
 use Rattle.txn_engine.proofs.Begun.{short_told, row_told, memory_told}
+use Rattle.txn_engine.proofs.Files.{only_none, images_same}
 use Rattle.txn_engine.proofs.Going.{counts_of}
 use Rattle.txn_engine.proofs.Lists.{topic_at, at_index}
 use Rattle.txn_engine.proofs.TopicNames.{part_name}
@@ -114,9 +115,9 @@ module _ {D : Type 0} (moment : D → ℕ) (image : D → Files → Type 0) (lef
       All-cons (λ t. Backed StandsIn (image new) t.content) t ts (same_backed t.content (All-head (λ t. Backed StandsIn (image old) t.content) t ts backed))
       (topics_same_backed ts (All-tail (λ t. Backed StandsIn (image old) t.content) t ts backed))
 
-  pub read_goes : (faults : D → ℕ) (part_faults : D → ℕ → ℕ) (v : EngineView) → IsEngine v → IsWhole v → IsBacked (image old) v → (topic : List ℕ) (p : ℕ) → part_of v.names topic ≡ Some p → (t : TopicView) → IsAt v (p - 1) t → (X Y : Type 0)
-      → CountsFaults t.content.key.part (faults old) (faults new) (part_faults old) (part_faults new) Y → (X → Y) → Goes moment image left_since faults part_faults X v v old new
-  read_goes faults part_faults v is whole backed topic p known t at X Y cause means =
+  pub read_goes : (seen : D → Files) → seen new ≡ seen old → (faults : D → ℕ) (part_faults : D → ℕ → ℕ) (v : EngineView) → IsEngine v → IsWhole v → IsBacked (image old) v → (topic : List ℕ) (p : ℕ) → part_of v.names topic ≡ Some p → (t : TopicView) → IsAt v (p - 1) t → (X Y : Type 0)
+      → CountsFaults t.content.key.part (faults old) (faults new) (part_faults old) (part_faults new) Y → (X → Y) → Goes moment image left_since seen faults part_faults X v v old new
+  read_goes seen still faults part_faults v is whole backed topic p known t at X Y cause means =
       let found = knows v is topic p known in
       let one : IsTopic v.limits (1 + (p - 1)) t = is_topic_at v is (p - 1) t found.below at in
       record {
@@ -125,6 +126,8 @@ module _ {D : Type 0} (moment : D → ℕ) (image : D → Files → Type 0) (lef
         tied = λ was. was;
         backed = record { coord = same_backed v.coord.content backed.coord; topics = topics_same_backed v.topics backed.topics };
         images = weaker moment image left_since Same (KeepsAboveIf (IsTied v) v.names) old new (λ d c here same was floor above. subst (StandsAbove v.names floor) (sym same) above) since;
+        elsewhere = images_same moment image left_since (length v.names) old new since;
+        others = only_none (length v.names) (seen old) (seen new) still;
         cause = counts_of (length v.names) t.content.key.part (faults old) (faults new) (part_faults old) (part_faults new) Y X
             (subst (λ (k : FileId). k.part ≤ length v.names) (sym one.key) (within (p - 1) (length v.topics) (length v.names) found.below is.count)) means cause;
       }

@@ -26,6 +26,7 @@ use Rattle.txn_model.specs.Table.{TableState}
 use Rattle.txn_model.specs.Words.{list_at, nowhere}
 use Rattle.txn_engine.specs.Above.{KeepsAboveIf}
 use Rattle.txn_engine.specs.Ending.{AreSameTopics, IsSameBut}
+use Rattle.txn_engine.specs.Files.{OnlyLedgers}
 use Rattle.txn_engine.specs.Kept.{IsCoordinator, IsTopic, AreTopics, IsEngine}
 use Rattle.txn_engine.specs.Table.{coord_flight, topic_flight, lists_from, flights_from, unrebuilt_from, table_of}
 use Rattle.txn_engine.specs.Told.{MayTell, RoseFor, Goes}
@@ -159,14 +160,16 @@ module _ (v v' : EngineView) (same : IsSameBut v v') where
         (subst (λ (l : Limits). AnswersAt l (RoseFor f g fs gs) (table_of v') r m (reply.No no.NoMemory) (table_of w)) same.limits (may.instead long));
   }
 
-module _ {D : Type 0} (moment : D → ℕ) (image : D → Files → Type 0) (left_since : D → ℕ → Files → Type 0) (faults : D → ℕ) (part_faults : D → ℕ → ℕ) where
+module _ {D : Type 0} (moment : D → ℕ) (image : D → Files → Type 0) (left_since : D → ℕ → Files → Type 0) (seen : D → Files) (faults : D → ℕ) (part_faults : D → ℕ → ℕ) where
   -- room that is reserved
-  pub goes_same : (X : Type 0) → (X → ⊥) → (v v' : EngineView) (disk : D) → IsWhole v → IsBacked (image disk) v → IsSameBut v v' → Goes moment image left_since faults part_faults X v v' disk disk
+  pub goes_same : (X : Type 0) → (X → ⊥) → (v v' : EngineView) (disk : D) → IsWhole v → IsBacked (image disk) v → IsSameBut v v' → Goes moment image left_since seen faults part_faults X v v' disk disk
   goes_same X none v v' disk whole backed same = record {
     names = same.names;
     whole = inl (same_whole v v' same whole);
     tied = same_tied v v' same;
     backed = same_backed v v' same (image disk) backed;
     images = started moment image left_since disk (KeepsAboveIf (IsTied v) v.names) (λ c at tied floor above. above);
+    elsewhere = started moment image left_since disk (OnlyLedgers (length v.names)) (λ c at file apart. refl);
+    others = λ file apart. refl;
     cause = counts_still (length v.names) (faults disk) (part_faults disk) X none;
   }

@@ -2,10 +2,13 @@ pub mod View
 pub mod Table
 pub mod Above
 pub mod Kept
+pub mod Opening
+pub mod Files
 pub mod Told
 pub mod Refusals
 pub mod Publishing
-pub mod Opening
 pub mod Ending
 pub mod Causes
 pub mod Unopened
+pub mod Damage
+pub mod Faults

@@ -12,7 +12,7 @@ use Rattle.txn_buffer.specs.View as topic
 use Rattle.txn_buffer.specs.View.{TopicView}
 use Rattle.txn_coordinator.specs.View as coordinator
 use Rattle.txn_coordinator.specs.View.{CoordView}
-use Rattle.txn_ledger.specs.Found.{KeepsList}
+use Rattle.txn_ledger.specs.Found.{KeepsList, KeepsDamaged}
 use Rattle.txn_model.specs.declared.world.World.{World}
 use Rattle.txn_model.specs.Coord.{CoordLawful, coord_allows}
 use Rattle.txn_model.specs.Skeletons.{coord_skeleton, coord_skeletons}
@@ -89,6 +89,10 @@ pub record IsFirstDamagedTopic (n : ℕ) (tells : Type 0) (files : Files) (file 
 -- What each file before stands for, the same file after does.
 abbrev pub KeepsLists : Files → Files → Type 0
 KeepsLists before after = (file : FileId) → KeepsList (before file) (after file)
+
+-- Each file in which an open gate begins no frame stays as it was.
+abbrev pub KeepsAllDamaged : Files → Files → Type 0
+KeepsAllDamaged before after = (file : FileId) → KeepsDamaged (before file) (after file)
 
 -- It is the file of a part of these.
 abbrev pub IsPartFile : ℕ → FileId → Type 0

@@ -10,6 +10,7 @@ use Rattle.txn_base.specs.Outside.{Rose}
 use Rattle.txn_model.specs.Answers.{AnswersAt}
 use Rattle.txn_wire.specs.Short.{IsShort, is_long}
 use Rattle.txn_engine.specs.Above.{KeepsAboveIf}
+use Rattle.txn_engine.specs.Files.{OnlyLedgers}
 use Rattle.txn_engine.specs.Table.{table_of}
 use Rattle.txn_engine.specs.View.{EngineView, IsWhole, IsTied, IsBacked}
 
@@ -47,11 +48,14 @@ pub record CountsWithin (n before now : ℕ) (parts_before parts_now : ℕ → �
   pub others : (p : ℕ) → n < p → p < 64 → parts_now p ≡ parts_before p
 
 -- From v to v', over these disks, all that was rebuilt stays so, or a fault is told; what is rebuilt stays tied to the
--- ledgers, and they to each image; and whatever world each image at the call extends soundly, each image since does.
-pub record Goes {D : Type 0} (moment : D → ℕ) (image : D → Files → Type 0) (left_since : D → ℕ → Files → Type 0) (faults : D → ℕ) (part_faults : D → ℕ → ℕ) (is_fault : Type 0) (v v' : EngineView) (old new : D) : Type 0 where
+-- ledgers, and they to each image; whatever world each image at the call extends soundly, each image since does; and no
+-- file but the ledgers of the engine changes, as it reads and in each image.
+pub record Goes {D : Type 0} (moment : D → ℕ) (image : D → Files → Type 0) (left_since : D → ℕ → Files → Type 0) (seen : D → Files) (faults : D → ℕ) (part_faults : D → ℕ → ℕ) (is_fault : Type 0) (v v' : EngineView) (old new : D) : Type 0 where
   pub names : v'.names ≡ v.names
   pub whole : IsWhole v' ⊎ is_fault
   pub tied : IsTied v → IsTied v'
   pub backed : IsBacked (image new) v'
   pub images : Since moment image left_since (KeepsAboveIf (IsTied v) v.names) old new
+  pub elsewhere : Since moment image left_since (OnlyLedgers (length v.names)) old new
+  pub others : OnlyLedgers (length v.names) (seen old) (seen new)
   pub cause : CountsWithin (length v.names) (faults old) (faults new) (part_faults old) (part_faults new) is_fault

@@ -1,13 +1,16 @@
 //! The answer to one request.
-ghost use Rattle.std.specs.Prelude.{◌≡◌, ◌⊎◌, true, false, length, Some};
+ghost use Rattle.std.specs.Prelude.{◌≡◌, ◌⊎◌, ℕ, List, true, false, length, Some, IfSome};
 ghost use Rattle.txn_base.specs.Disk.{Files, Since};
 ghost use Rattle.txn_base.specs.declared.reply.Reply.TheVariants as reply;
 ghost use Rattle.txn_base.specs.declared.reply.Refusal.TheVariants as no;
 ghost use Rattle.txn_base.specs.declared.reply.Refusal.{Refusal};
 ghost use Rattle.txn_engine.specs.Above.{KeepsAboveIf};
-ghost use Rattle.txn_engine.specs.Causes.{first_row, IsByRow};
+ghost use Rattle.txn_engine.specs.Causes.{first_row, IsByRow, TellsEarly};
+ghost use Rattle.txn_engine.specs.Damage.{IsDamageIn};
+ghost use Rattle.txn_engine.specs.Faults.{fault_name, RoseByName};
+ghost use Rattle.txn_engine.specs.Files.{OnlyLedgers};
 ghost use Rattle.txn_engine.specs.Kept.{IsEngine};
-ghost use Rattle.txn_engine.specs.Table.{table_of};
+ghost use Rattle.txn_engine.specs.Table.{table_of, world_of};
 ghost use Rattle.txn_engine.specs.Told.{IsAsked, RoseFor, CountsWithin, IsTellable};
 ghost use Rattle.txn_engine.specs.View.{IsWhole, IsTied, IsBacked};
 ghost use Rattle.txn_model.specs.declared.world.World.{World};
@@ -43,8 +46,18 @@ impl Engine {
         ensures rows { D.tells → IsTied self.old → (row : Refusal) → IsByRow row → result ≡ reply.No row → first_row self.old.limits (moved request.now now (table_of self.old)) request.now ≡ Some row }
         ensures causes { D.tells → IsTied self.old → (row : Refusal) → first_row self.old.limits (moved request.now now (table_of self.old)) request.now ≡ Some row → (result ≡ reply.No row) ⊎ (result ≡ reply.No no.NoMemory) }
 
+        // So it is on any disk where that row looks at the request and the names alone.
+        ensures early { TellsEarly self.old.limits (world_of self.old) request.now result }
+
         // A refusal but for a fault adds no entry: at most the moment of the line counts as told.
         ensures unchanged { D.tells → IsTied self.old → (row : Refusal) → result ≡ reply.No row → is_fault result ≡ false → table_of self.new ≡ moved request.now now (table_of self.old) }
+
+        // Damage is told of the topic that the request reads, of a record that the read comes by.
+        ensures damaged { (part : List ℕ) (place : ℕ) → result ≡ reply.No (no.Damaged part place) → IsDamageIn D.tells self.old request.now part place }
+
+        // A fault names the coordinator or the part whose count rose.
+        ensures named { IfSome (fault_name result) (RoseByName self.old.names (RoseFor (D.faults disk.old) (D.faults disk.new) (D.part_faults disk.old) (D.part_faults disk.new))) }
+
         ensures tellable { IsTellable result }
         ensures names { self.new.names ≡ self.old.names }
         ensures limits { self.new.limits ≡ self.old.limits }
@@ -55,6 +68,10 @@ impl Engine {
 
         // Whatever world each image at the call extends soundly, each image at any moment since does.
         ensures images { Since D.moment D.image D.left_since (KeepsAboveIf (IsTied self.old) self.old.names) disk.old disk.new }
+
+        // No file but the ledgers of these parts changes, in each image at any moment since and as it reads.
+        ensures elsewhere { Since D.moment D.image D.left_since (OnlyLedgers (length self.old.names)) disk.old disk.new }
+        ensures others { OnlyLedgers (length self.old.names) (D.seen disk.old) (D.seen disk.new) }
 
         // Whatever a stop leaves afterwards is what the table keeps of one: each batch in flight whole or not at all.
         ensures leaves { (c : Files) (w : World) → D.image disk.new c → StandsFor self.new.names c w → StandsForKept self.new.names c (table_of self.new).world (table_of self.new).flights }
@@ -79,6 +96,9 @@ impl Engine {
 
         ensures answers { D.tells → IsTied self.old → AnswersAt self.old.limits (RoseFor (D.faults disk.old) (D.faults disk.new) (D.part_faults disk.old) (D.part_faults disk.new)) (table_of self.old) request.now now result (table_of self.new) }
         ensures instead { D.tells → IsTied self.old → is_long result ≡ true → AnswersAt self.old.limits (RoseFor (D.faults disk.old) (D.faults disk.new) (D.part_faults disk.old) (D.part_faults disk.new)) (table_of self.old) request.now now (reply.No no.NoMemory) (table_of self.new) }
+        ensures damaged { (part : List ℕ) (place : ℕ) → result ≡ reply.No (no.Damaged part place) → IsDamageIn D.tells self.old request.now part place }
+        ensures named { IfSome (fault_name result) (RoseByName self.old.names (RoseFor (D.faults disk.old) (D.faults disk.new) (D.part_faults disk.old) (D.part_faults disk.new))) }
+        ensures early { TellsEarly self.old.limits (world_of self.old) request.now result }
         ensures tellable { IsTellable result }
         ensures names { self.new.names ≡ self.old.names }
         ensures limits { self.new.limits ≡ self.old.limits }
@@ -87,6 +107,8 @@ impl Engine {
         ensures backed { IsBacked (D.image disk.new) self.new }
 
         ensures images { Since D.moment D.image D.left_since (KeepsAboveIf (IsTied self.old) self.old.names) disk.old disk.new }
+        ensures elsewhere { Since D.moment D.image D.left_since (OnlyLedgers (length self.old.names)) disk.old disk.new }
+        ensures others { OnlyLedgers (length self.old.names) (D.seen disk.old) (D.seen disk.new) }
         ensures cause { CountsWithin (length self.old.names) (D.faults disk.old) (D.faults disk.new) (D.part_faults disk.old) (D.part_faults disk.new) (is_fault result ≡ true) }
     {
         match request {

@@ -8,8 +8,9 @@ ghost use Rattle.txn_model.specs.declared.world.World.{World};
 ghost use Rattle.txn_model.specs.Names.{NamesLawful};
 ghost use Rattle.txn_model.specs.Opening.{table_over};
 ghost use Rattle.txn_model.specs.Sound.{StandsFor};
+ghost use Rattle.txn_engine.specs.Files.{OnlyLedgers};
 ghost use Rattle.txn_engine.specs.Kept.{IsEngine};
-ghost use Rattle.txn_engine.specs.Opening.{AreParts, IsFirstDamage, IsPartFile, KeepsWorld};
+ghost use Rattle.txn_engine.specs.Opening.{AreParts, IsFirstDamage, IsPartFile, KeepsLists, KeepsAllDamaged, KeepsWorld};
 ghost use Rattle.txn_engine.specs.Table.{table_of};
 ghost use Rattle.txn_engine.specs.Told.{CountsWithin};
 ghost use Rattle.txn_engine.specs.View.{IsWhole, IsTied, IsBacked};
@@ -61,7 +62,17 @@ impl Engine {
 
         // Damage is told of the first file in order of its part, and of its first entry that is damaged.
         ensures damaged { (file : FileId) (entry : ℕ) → result ≡ Err (EngineError.Damaged file entry) → IsPartFile (length names.items) file × (D.tells → IsFirstDamage (length names.items) (D.seen disk.old) file entry) }
+
+        // A file in which an open gate begins no frame stays as it was.
+        ensures uncut { D.tells → KeepsAllDamaged (D.seen disk.old) (D.seen disk.new) }
+
+        // What each file stood for, it stands for in each image at any moment since, whether another is damaged or not.
+        ensures lists { Since D.moment D.image D.left_since KeepsLists disk.old disk.new }
         ensures images { Since D.moment D.image D.left_since (KeepsWorld names.items) disk.old disk.new }
+
+        // No file but the ledgers of these parts changes, in each image at any moment since and as it reads.
+        ensures elsewhere { Since D.moment D.image D.left_since (OnlyLedgers (length names.items)) disk.old disk.new }
+        ensures others { OnlyLedgers (length names.items) (D.seen disk.old) (D.seen disk.new) }
         ensures cause { CountsWithin (length names.items) (D.faults disk.old) (D.faults disk.new) (D.part_faults disk.old) (D.part_faults disk.new) (result ≡ Err EngineError.Fault) }
     {
         let named = names.len() as u32;

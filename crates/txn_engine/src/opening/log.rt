@@ -4,7 +4,7 @@ ghost use Rattle.txn_base.specs.Content.{Backed};
 ghost use Rattle.txn_base.specs.Disk.{Elsewhere, Since, Changes, CountsFaults};
 ghost use Rattle.txn_base.specs.Limits.{InRange};
 ghost use Rattle.txn_base.specs.declared.file_id.FileId.{FileId};
-ghost use Rattle.txn_ledger.specs.Found.{KeepsList};
+ghost use Rattle.txn_ledger.specs.Found.{KeepsList, KeepsDamaged};
 ghost use Rattle.txn_ledger.specs.Ledger.{StandsIn};
 ghost use Rattle.txn_model.specs.Deadlines.{low_of};
 ghost use Rattle.txn_model.specs.Sound.{ledger_file};
@@ -34,6 +34,7 @@ pub fn open_coordinator<D: Disk, L: ledger::Ledger>(
     ensures backed { IfOk result (λ c. Backed StandsIn (D.image disk.new) c.content) }
     ensures told { D.tells → IfOk result (λ c. IsCoordinatorOf named c (D.seen disk.old (ledger_file 0))) }
     ensures damaged { (file : FileId) (entry : ℕ) → result ≡ Err (EngineError.Damaged file entry) → (file ≡ ledger_file 0) × (D.tells → IsDamagedLog named (D.seen disk.old (ledger_file 0)) entry) }
+    ensures uncut { D.tells → KeepsDamaged (D.seen disk.old (ledger_file 0)) (D.seen disk.new (ledger_file 0)) }
     ensures images { Since D.moment D.image D.left_since (Changes (ledger_file 0) KeepsList) disk.old disk.new }
     ensures others { Elsewhere (ledger_file 0) (D.seen disk.old) (D.seen disk.new) }
     ensures cause { CountsFaults 0 (D.faults disk.old) (D.faults disk.new) (D.part_faults disk.old) (D.part_faults disk.new) (result ≡ Err EngineError.Fault) }

@@ -1,27 +1,32 @@
 use Rattle.std.proofs.Common.{rules}
-use Rattle.txn_engine.proofs.Closing.{undriven_at, closed_engine, close_ok, close_err, close_rose, close_goes}
+use Rattle.txn_engine.proofs.Closing.{decision_in, undriven_at, closed_engine, close_ok, close_err, close_rose, close_goes}
 use Rattle.txn_engine.proofs.engine.Engine.close.Goals as goal
 
 pub close-requires-clause-undriven : goal.close-requires-clause-undriven
-close-requires-clause-undriven g c = undriven_at _ c.self.invariant _ c.self.view_is c.args.txn c.args.decision c.requires.decided c.requires.unclosed
+close-requires-clause-undriven g c =
+    let is = decision_in _ c.requires.decided in
+    undriven_at _ c.self.invariant _ c.self.view_is c.args.txn is.0 is.1 c.requires.unclosed
 
 pub invariant_of-self : goal.invariant_of-self
 invariant_of-self g c =
-    closed_engine _ c.self.invariant _ c.self.view_is c.requires.whole c.args.txn c.args.decision (search rules) c.requires.decided c.requires.unclosed c.close.new.self c.close.result c.close.ensures.ok c.close.ensures.fault
+    let is = decision_in _ c.requires.decided in
+    closed_engine _ c.self.invariant _ c.self.view_is c.requires.whole c.args.txn is.0 (search rules) is.1 c.requires.unclosed c.close.new.self c.close.result c.close.ensures.ok c.close.ensures.fault
 
 pub returns-clause-ok : goal.returns-clause-ok
-returns-clause-ok g c = λ tells tied.
-    close_ok _ c.self.invariant _ c.self.view_is c.requires.whole c.args.txn c.args.decision (search rules) c.requires.decided c.requires.unclosed c.close.new.self c.close.result c.close.ensures.ok c.close.ensures.fault tied c.close.ensures.tied
+returns-clause-ok g c = λ d decided tells tied.
+    close_ok _ c.self.invariant _ c.self.view_is c.requires.whole c.args.txn d (search rules) decided c.requires.unclosed c.close.new.self c.close.result c.close.ensures.ok c.close.ensures.fault tied c.close.ensures.tied
 
 pub returns-clause-err : goal.returns-clause-err
-returns-clause-err g c = λ tells tied.
-    close_err _ c.self.invariant _ c.self.view_is c.requires.whole c.args.txn c.args.decision (search rules) c.requires.decided c.requires.unclosed c.close.new.self c.close.result c.close.ensures.ok c.close.ensures.fault tied c.close.ensures.tied
+returns-clause-err g c = λ d decided tells tied.
+    close_err _ c.self.invariant _ c.self.view_is c.requires.whole c.args.txn d (search rules) decided c.requires.unclosed c.close.new.self c.close.result c.close.ensures.ok c.close.ensures.fault tied c.close.ensures.tied
 
 pub returns-clause-rose : goal.returns-clause-rose
 returns-clause-rose g c =
-    close_rose _ c.self.invariant _ c.self.view_is c.requires.whole c.args.txn c.args.decision (search rules) c.requires.decided c.requires.unclosed c.close.new.self c.close.result c.close.ensures.ok c.close.ensures.fault _ _ _ _ c.close.ensures.cause
+    let is = decision_in _ c.requires.decided in
+    close_rose _ c.self.invariant _ c.self.view_is c.requires.whole c.args.txn is.0 (search rules) is.1 c.requires.unclosed c.close.new.self c.close.result c.close.ensures.ok c.close.ensures.fault _ _ _ _ c.close.ensures.cause
 
 pub returns-clause-goes : goal.returns-clause-goes
 returns-clause-goes g c =
-    close_goes _ c.self.invariant _ c.self.view_is c.requires.whole c.args.txn c.args.decision (search rules) c.requires.decided c.requires.unclosed c.close.new.self c.close.result c.close.ensures.ok c.close.ensures.fault c.requires.marked
-    g.D.Disk.moment g.D.Disk.image g.D.Disk.left_since g.D.Disk.faults g.D.Disk.part_faults c.args.disk.now c.close.new.disk c.requires.backed c.close.ensures.tied c.close.ensures.backed c.close.ensures.images c.close.ensures.cause
+    let is = decision_in _ c.requires.decided in
+    close_goes _ c.self.invariant _ c.self.view_is c.requires.whole c.args.txn is.0 (search rules) is.1 c.requires.unclosed c.close.new.self c.close.result c.close.ensures.ok c.close.ensures.fault c.requires.marked
+    g.D.Disk.moment g.D.Disk.image g.D.Disk.left_since g.D.Disk.seen g.D.Disk.faults g.D.Disk.part_faults c.args.disk.now c.close.new.disk c.requires.backed c.close.ensures.tied c.close.ensures.backed c.close.ensures.images c.close.ensures.others c.close.ensures.cause

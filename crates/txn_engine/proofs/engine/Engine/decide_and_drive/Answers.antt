@@ -1,12 +1,16 @@
-use Rattle.std.proofs.Common.{sym, subst, ap}
+use Rattle.std.proofs.Common.{sym, subst, ap, ◌∙◌, Err}
 use Rattle.txn_base.specs.declared.reply.Refusal.{Refusal}
 use Rattle.txn_base.specs.declared.reply.Reply.TheVariants as reply
-use Rattle.txn_engine.specs.Told.{IsTellable}
+use Rattle.txn_engine.specs.Damage.{is_damage}
+use Rattle.txn_engine.specs.Told.{IsTellable, RoseFor}
 use Rattle.txn_engine.proofs.AtView.{tell_at}
 use Rattle.txn_engine.proofs.Begun.{tellable_refusal}
+use Rattle.txn_engine.proofs.Damage.{refusal_sound}
 use Rattle.txn_engine.proofs.Driving.{rose_later}
 use Rattle.txn_engine.proofs.Ended.{ended_told}
 use Rattle.txn_engine.proofs.Going.{goes_then}
+use Rattle.txn_engine.specs.Faults.{stuck_name}
+use Rattle.txn_engine.proofs.Faults.{named_for, refusal_named, named_wider}
 use Rattle.txn_engine.proofs.engine.Engine.decide_and_drive.Goals as goal
 
 pub returns-in-Ok-clause-told : goal.returns-in-Ok-clause-told
@@ -18,7 +22,7 @@ returns-in-Ok-clause-told g c = λ tells tied now.
 
 pub returns-in-Ok-clause-goes : goal.returns-in-Ok-clause-goes
 returns-in-Ok-clause-goes g c =
-    goes_then g.D.Disk.moment g.D.Disk.image g.D.Disk.left_since g.D.Disk.faults g.D.Disk.part_faults _ _ c.args.self.now c.decide.new.self c.drive.new.self c.args.disk.now c.decide.new.disk c.drive.new.disk c.in-Ok.ensures.goes c.drive.ensures.goes
+    goes_then g.D.Disk.moment g.D.Disk.image g.D.Disk.left_since g.D.Disk.seen g.D.Disk.faults g.D.Disk.part_faults _ _ c.args.self.now c.decide.new.self c.drive.new.self c.args.disk.now c.decide.new.disk c.drive.new.disk c.in-Ok.ensures.goes c.drive.ensures.goes
 
 pub returns-in-Err-clause-told : goal.returns-in-Err-clause-told
 returns-in-Err-clause-told g c = λ tells tied now.
@@ -26,3 +30,18 @@ returns-in-Err-clause-told g c = λ tells tied now.
 
 pub returns-in-Err-clause-tellable : goal.returns-in-Err-clause-tellable
 returns-in-Err-clause-tellable g c = subst (λ (row : Refusal). IsTellable (reply.No row)) (sym c.coord_refusal.ensures) (tellable_refusal c.in-Err.error)
+
+pub returns-in-Err-clause-undamaged : goal.returns-in-Err-clause-undamaged
+returns-in-Err-clause-undamaged g c = ap (λ (row : Refusal). is_damage (reply.No row)) c.coord_refusal.ensures ∙ refusal_sound c.in-Err.error
+
+pub returns-in-Ok-clause-named : goal.returns-in-Ok-clause-named
+returns-in-Ok-clause-named g c =
+    let went = c.in-Ok.ensures.goes in
+    named_wider c.decide.new.self.names (RoseFor (g.D.Disk.faults c.decide.new.disk) (g.D.Disk.faults c.drive.new.disk) (g.D.Disk.part_faults c.decide.new.disk) (g.D.Disk.part_faults c.drive.new.disk)) c.args.self.now.names (RoseFor (g.D.Disk.faults c.args.disk.now) (g.D.Disk.faults c.drive.new.disk) (g.D.Disk.part_faults c.args.disk.now) (g.D.Disk.part_faults c.drive.new.disk)) went.names
+    (λ p grew. rose_later p _ _ _ (g.D.Disk.part_faults c.args.disk.now) (g.D.Disk.part_faults c.decide.new.disk) (g.D.Disk.part_faults c.drive.new.disk) went.cause.later (went.cause.parts_later p) grew)
+    (stuck_name c.drive.result.stuck) c.drive.ensures.named
+
+pub returns-in-Err-clause-named : goal.returns-in-Err-clause-named
+returns-in-Err-clause-named g c =
+    named_for c.args.self.now.names (RoseFor (g.D.Disk.faults c.args.disk.now) (g.D.Disk.faults c.decide.new.disk) (g.D.Disk.part_faults c.args.disk.now) (g.D.Disk.part_faults c.decide.new.disk)) _ _ (ap (λ (row : Refusal). reply.No row) c.coord_refusal.ensures)
+    (refusal_named c.args.self.now.names (RoseFor (g.D.Disk.faults c.args.disk.now) (g.D.Disk.faults c.decide.new.disk) (g.D.Disk.part_faults c.args.disk.now) (g.D.Disk.part_faults c.decide.new.disk)) c.in-Err.error (λ e. c.in-Err.ensures.rose (ap Err e)))

@@ -1,14 +1,18 @@
-use Rattle.std.proofs.Common.{◌≡◌, ℕ, ◌≤◌, List, length, Err, ap, ◌∙◌, subst, arith}
+use Rattle.std.proofs.Common.{◌≡◌, ℕ, ◌≤◌, List, length, Err, refl, sym, ap, ◌∙◌, subst, arith}
 use Rattle.std.proofs.lemmas.Result.{err_from_is_err_and}
+use Rattle.txn_base.specs.Disk.{Since}
 use Rattle.txn_model.specs.Sound.{ledger_file}
 use Rattle.txn_model.proofs.Named.{few_names}
 use Rattle.txn_coordinator.specs.View.{CoordView}
 use Rattle.txn_engine.specs.declared.opening.EngineError.TheVariants as engine
+use Rattle.txn_engine.specs.Files.{OnlyLedgers}
 use Rattle.txn_engine.specs.Kept.{IsCoordinator}
 use Rattle.txn_engine.specs.Table.{table_of}
 use Rattle.txn_engine.specs.Opening.{IsCoordinatorOf, IsDamagedPart, IsFirstDamagedTopic}
+use Rattle.txn_engine.specs.View.{IsBacked}
+use Rattle.txn_engine.proofs.Files.{only_one, only_then, images_change, images_then}
 use Rattle.txn_engine.proofs.OpeningAll.{told_before, damage_before, topics_elsewhere, parts_told, topic_damage, topic_file, log_damage, engine_opened, opened_table}
-use Rattle.txn_engine.proofs.OpeningFiles.{keeps_of, keeps_then, worlds_kept}
+use Rattle.txn_engine.proofs.OpeningFiles.{keeps_of, keeps_then, backed_kept, worlds_kept, damaged_all, damaged_then}
 use Rattle.txn_engine.proofs.engine.Engine.open_disk.Goals as goal
 
 few : (names : List (List ℕ)) (n : ℕ) → n ≡ length names → length names ≤ 62 → n ≤ 62
@@ -41,10 +45,13 @@ returns-in_err-coordinator-clause-damaged g c = λ file entry is.
           (subst (λ (n : ℕ). IsDamagedPart n 0 (g.D.Disk.seen c.args.disk.now (ledger_file 0)) entry) count (one.1 told)),
     )
 
+pub returns-in_err-coordinator-clause-lists : goal.returns-in_err-coordinator-clause-lists
+returns-in_err-coordinator-clause-lists g c =
+    keeps_of g.D.Disk.moment g.D.Disk.image g.D.Disk.left_since (ledger_file 0) c.args.disk.now c.open_coordinator.new.disk c.open_coordinator.ensures.images
+
 pub returns-in_err-coordinator-clause-images : goal.returns-in_err-coordinator-clause-images
 returns-in_err-coordinator-clause-images g c =
-    worlds_kept g.D.Disk.moment g.D.Disk.image g.D.Disk.left_since c.args.names.items c.args.disk.now c.open_coordinator.new.disk
-    (keeps_of g.D.Disk.moment g.D.Disk.image g.D.Disk.left_since (ledger_file 0) c.args.disk.now c.open_coordinator.new.disk c.open_coordinator.ensures.images)
+    worlds_kept g.D.Disk.moment g.D.Disk.image g.D.Disk.left_since c.args.names.items c.args.disk.now c.open_coordinator.new.disk (returns-in_err-coordinator-clause-lists g c)
 
 pub returns-in_err-topics-clause-damaged : goal.returns-in_err-topics-clause-damaged
 returns-in_err-topics-clause-damaged g c = λ file entry is.
@@ -63,17 +70,26 @@ returns-in_err-topics-clause-damaged g c = λ file entry is.
           (subst (λ (m : ℕ). IsCoordinatorOf m c.in_ok-coordinator.coordinator (files (ledger_file 0))) count (c.in_ok-coordinator.ensures.told told)) g.D.Disk.tells file entry told one,
     )
 
+pub returns-in_err-topics-clause-lists : goal.returns-in_err-topics-clause-lists
+returns-in_err-topics-clause-lists g c =
+    keeps_then g.D.Disk.moment g.D.Disk.image g.D.Disk.left_since c.args.disk.now c.open_coordinator.new.disk c.open_topics.new.disk
+    (keeps_of g.D.Disk.moment g.D.Disk.image g.D.Disk.left_since (ledger_file 0) c.args.disk.now c.open_coordinator.new.disk c.open_coordinator.ensures.images) c.open_topics.ensures.images
+
 pub returns-in_err-topics-clause-images : goal.returns-in_err-topics-clause-images
-returns-in_err-topics-clause-images g c =
-    worlds_kept g.D.Disk.moment g.D.Disk.image g.D.Disk.left_since c.args.names.items c.args.disk.now c.open_topics.new.disk
-    (keeps_then g.D.Disk.moment g.D.Disk.image g.D.Disk.left_since c.args.disk.now c.open_coordinator.new.disk c.open_topics.new.disk
-    (keeps_of g.D.Disk.moment g.D.Disk.image g.D.Disk.left_since (ledger_file 0) c.args.disk.now c.open_coordinator.new.disk c.open_coordinator.ensures.images) c.open_topics.ensures.images)
+returns-in_err-topics-clause-images g c = worlds_kept g.D.Disk.moment g.D.Disk.image g.D.Disk.left_since c.args.names.items c.args.disk.now c.open_topics.new.disk (returns-in_err-topics-clause-lists g c)
+
+pub returns-clause-backed : goal.returns-clause-backed
+returns-clause-backed g c =
+    let kept = backed_kept g.D.Disk.moment g.D.Disk.image g.D.Disk.left_since c.in_ok-coordinator.coordinator.content c.open_coordinator.new.disk c.open_topics.new.disk c.open_topics.ensures.images c.in_ok-coordinator.ensures.backed in
+    subst (IsBacked (g.D.Disk.image c.open_topics.new.disk)) (sym c.over.ensures) (record { coord = kept; topics = c.in_ok-topics.ensures.backed })
+
+pub returns-clause-lists : goal.returns-clause-lists
+returns-clause-lists g c =
+    keeps_then g.D.Disk.moment g.D.Disk.image g.D.Disk.left_since c.args.disk.now c.open_coordinator.new.disk c.open_topics.new.disk
+    (keeps_of g.D.Disk.moment g.D.Disk.image g.D.Disk.left_since (ledger_file 0) c.args.disk.now c.open_coordinator.new.disk c.open_coordinator.ensures.images) c.open_topics.ensures.images
 
 pub returns-clause-images : goal.returns-clause-images
-returns-clause-images g c =
-    worlds_kept g.D.Disk.moment g.D.Disk.image g.D.Disk.left_since c.args.names.items c.args.disk.now c.open_topics.new.disk
-    (keeps_then g.D.Disk.moment g.D.Disk.image g.D.Disk.left_since c.args.disk.now c.open_coordinator.new.disk c.open_topics.new.disk
-    (keeps_of g.D.Disk.moment g.D.Disk.image g.D.Disk.left_since (ledger_file 0) c.args.disk.now c.open_coordinator.new.disk c.open_coordinator.ensures.images) c.open_topics.ensures.images)
+returns-clause-images g c = worlds_kept g.D.Disk.moment g.D.Disk.image g.D.Disk.left_since c.args.names.items c.args.disk.now c.open_topics.new.disk (returns-clause-lists g c)
 
 pub returns-clause-undamaged : goal.returns-clause-undamaged
 returns-clause-undamaged g c = λ told.
@@ -102,3 +118,59 @@ returns-clause-table g c = λ told w stands.
     ∙ opened_table names c.args.limits.now coord ts is (record { coord = log.1; topics = opened.2 }) log.2 files
     (subst (λ (m : ℕ). IsCoordinatorOf m coord (files (ledger_file 0))) count (c.in_ok-coordinator.ensures.told told))
     (told_before c.args.limits.now 1 files mid ts (omega arith) (topics_elsewhere files mid c.open_coordinator.ensures.others) opened.0 (c.in_ok-topics.ensures.told told)) w stands
+
+pub returns-in_err-coordinator-clause-elsewhere : goal.returns-in_err-coordinator-clause-elsewhere
+returns-in_err-coordinator-clause-elsewhere g c =
+    images_change g.D.Disk.moment g.D.Disk.image g.D.Disk.left_since (length c.args.names.items) 0 _ c.args.disk.now c.open_coordinator.new.disk (omega arith) c.open_coordinator.ensures.images
+
+pub returns-in_err-coordinator-clause-others : goal.returns-in_err-coordinator-clause-others
+returns-in_err-coordinator-clause-others g c =
+    only_one (length c.args.names.items) 0 (ledger_file 0) (g.D.Disk.seen c.args.disk.now) (g.D.Disk.seen c.open_coordinator.new.disk) refl (omega arith) c.open_coordinator.ensures.others
+
+pub returns-in_err-topics-clause-elsewhere : goal.returns-in_err-topics-clause-elsewhere
+returns-in_err-topics-clause-elsewhere g c =
+    let count : c.len-named.result ≡ length c.args.names.items = omega (arith, c.len-named.ensures, c.args.names.ok) in
+    let n : ℕ = length c.args.names.items in
+    images_then g.D.Disk.moment g.D.Disk.image g.D.Disk.left_since n c.args.disk.now c.open_coordinator.new.disk c.open_topics.new.disk
+    (images_change g.D.Disk.moment g.D.Disk.image g.D.Disk.left_since n 0 _ c.args.disk.now c.open_coordinator.new.disk (omega arith) c.open_coordinator.ensures.images)
+    (subst (λ (m : ℕ). Since g.D.Disk.moment g.D.Disk.image g.D.Disk.left_since (OnlyLedgers m) c.open_coordinator.new.disk c.open_topics.new.disk) count c.open_topics.ensures.elsewhere)
+
+pub returns-in_err-topics-clause-others : goal.returns-in_err-topics-clause-others
+returns-in_err-topics-clause-others g c =
+    let count : c.len-named.result ≡ length c.args.names.items = omega (arith, c.len-named.ensures, c.args.names.ok) in
+    let n : ℕ = length c.args.names.items in
+    let files = g.D.Disk.seen c.args.disk.now in
+    let mid = g.D.Disk.seen c.open_coordinator.new.disk in
+    let new = g.D.Disk.seen c.open_topics.new.disk in
+    only_then n files mid new (only_one n 0 (ledger_file 0) files mid refl (omega arith) c.open_coordinator.ensures.others) (subst (λ (m : ℕ). OnlyLedgers m mid new) count c.open_topics.ensures.others)
+
+pub returns-clause-elsewhere : goal.returns-clause-elsewhere
+returns-clause-elsewhere g c =
+    let count : c.len-named.result ≡ length c.args.names.items = omega (arith, c.len-named.ensures, c.args.names.ok) in
+    let n : ℕ = length c.args.names.items in
+    images_then g.D.Disk.moment g.D.Disk.image g.D.Disk.left_since n c.args.disk.now c.open_coordinator.new.disk c.open_topics.new.disk
+    (images_change g.D.Disk.moment g.D.Disk.image g.D.Disk.left_since n 0 _ c.args.disk.now c.open_coordinator.new.disk (omega arith) c.open_coordinator.ensures.images)
+    (subst (λ (m : ℕ). Since g.D.Disk.moment g.D.Disk.image g.D.Disk.left_since (OnlyLedgers m) c.open_coordinator.new.disk c.open_topics.new.disk) count c.open_topics.ensures.elsewhere)
+
+pub returns-clause-others : goal.returns-clause-others
+returns-clause-others g c =
+    let count : c.len-named.result ≡ length c.args.names.items = omega (arith, c.len-named.ensures, c.args.names.ok) in
+    let n : ℕ = length c.args.names.items in
+    let files = g.D.Disk.seen c.args.disk.now in
+    let mid = g.D.Disk.seen c.open_coordinator.new.disk in
+    let new = g.D.Disk.seen c.open_topics.new.disk in
+    only_then n files mid new (only_one n 0 (ledger_file 0) files mid refl (omega arith) c.open_coordinator.ensures.others) (subst (λ (m : ℕ). OnlyLedgers m mid new) count c.open_topics.ensures.others)
+
+pub returns-in_err-coordinator-clause-uncut : goal.returns-in_err-coordinator-clause-uncut
+returns-in_err-coordinator-clause-uncut g c = λ tells.
+    damaged_all (ledger_file 0) (g.D.Disk.seen c.args.disk.now) (g.D.Disk.seen c.open_coordinator.new.disk) c.open_coordinator.ensures.others (c.open_coordinator.ensures.uncut tells)
+
+pub returns-in_err-topics-clause-uncut : goal.returns-in_err-topics-clause-uncut
+returns-in_err-topics-clause-uncut g c = λ tells.
+    damaged_then (g.D.Disk.seen c.args.disk.now) (g.D.Disk.seen c.open_coordinator.new.disk) (g.D.Disk.seen c.open_topics.new.disk)
+    (damaged_all (ledger_file 0) (g.D.Disk.seen c.args.disk.now) (g.D.Disk.seen c.open_coordinator.new.disk) c.open_coordinator.ensures.others (c.open_coordinator.ensures.uncut tells)) (c.open_topics.ensures.uncut tells)
+
+pub returns-clause-uncut : goal.returns-clause-uncut
+returns-clause-uncut g c = λ tells.
+    damaged_then (g.D.Disk.seen c.args.disk.now) (g.D.Disk.seen c.open_coordinator.new.disk) (g.D.Disk.seen c.open_topics.new.disk)
+    (damaged_all (ledger_file 0) (g.D.Disk.seen c.args.disk.now) (g.D.Disk.seen c.open_coordinator.new.disk) c.open_coordinator.ensures.others (c.open_coordinator.ensures.uncut tells)) (c.open_topics.ensures.uncut tells)

@@ -1,4 +1,4 @@
-use Rattle.std.proofs.Common.{rules, ◌∙◌, sym, ap, subst, refl, ℕ, ◌<◌, ◌≤◌, length, List, All, IsUtf8, arith}
+use Rattle.std.proofs.Common.{rules, ◌∙◌, sym, ap, subst, refl, ℕ, ◌<◌, ◌≤◌, length, List, All, IsUtf8, arith, inl}
 use Rattle.txn_base.specs.Bytes.{contents_of}
 use Rattle.txn_base.specs.declared.reply.Reply.TheVariants as reply
 use Rattle.txn_base.specs.Content.{Appends}
@@ -6,18 +6,25 @@ use Rattle.txn_base.specs.Disk.{Since}
 use Rattle.txn_buffer.specs.Adding.{messages_of}
 use Rattle.txn_buffer.specs.View.{batch_of}
 use Rattle.txn_ledger.specs.Ledger.{IsFile, StandsIn}
+use Rattle.txn_engine.specs.Damage.{is_damage}
 use Rattle.txn_engine.specs.Kept.{IsEngine}
-use Rattle.txn_engine.specs.Told.{IsTellable}
+use Rattle.txn_engine.specs.Told.{IsTellable, RoseFor}
 use Rattle.txn_engine.specs.View.{IsWhole, IsTied, IsBacked, EngineView}
 use Rattle.txn_model.specs.EarlyRows.{are_too_big}
 use Rattle.txn_model.specs.Names.{part_of}
 use Rattle.txn_model.proofs.Named.{few_names}
 use Rattle.txn_engine.proofs.AtView.{told_both, tell_at, told_to, goes_to}
-use Rattle.txn_engine.proofs.Bodies.{are_bodies, batch_records, entries_back, count_of}
+use Rattle.txn_buffer.proofs.BatchRecords.{batch_records}
+use Rattle.txn_engine.proofs.Bodies.{are_bodies, entries_back, count_of}
+use Rattle.txn_engine.proofs.Damage.{unknown_sound, why_sound, published_sound}
 use Rattle.txn_engine.proofs.Published.{unknown_publish_told, foreign_publish_told, big_told, why_tellable, publish_tellable, published_told}
 use Rattle.txn_engine.proofs.PublishedGoes.{after_call, published_goes, full_here, why_view, why_answer, unmarked_here, free_here, published_engine, put_is, put_engine}
 use Rattle.txn_engine.proofs.Reading.{at_known, backed_at, is_topic_at}
-use Rattle.txn_engine.proofs.TopicRows.{knows}
+use Rattle.txn_engine.proofs.TopicRows.{knows, unknown_publish, foreign_publish, big_publish, early_publish}
+use Rattle.txn_engine.proofs.Faults.{named_for, unknown_named, why_named, published_named, topic_rose}
+use Rattle.txn_base.specs.declared.request.Request.TheVariants as request
+use Rattle.txn_base.specs.declared.reply.Refusal.TheVariants as no
+use Rattle.txn_engine.proofs.Early.{no_row, its_row, topic_kind}
 use Rattle.txn_engine.proofs.engine.Engine.publish.Goals as goal
 
 below64 : (p n : ℕ) → p ≤ n → n ≤ 62 → p < 64
@@ -85,6 +92,43 @@ returns-clause-tellable g c = subst IsTellable (sym c.publish_reply.ensures) (pu
 pub returns-clause-goes : goal.returns-clause-goes
 returns-clause-goes g c =
     let found = knows _ c.self.invariant c.args.topic.now c.in-Some.number (ap (λ (ns : List (List ℕ)). part_of ns c.args.topic.now) (sym c.deref.ensures.value) ∙ sym c.part_of.ensures.value ∙ c.in-Some.is) in
-    goes_to g.D.Disk.moment g.D.Disk.image g.D.Disk.left_since g.D.Disk.faults g.D.Disk.part_faults _ _ _ _ _ _ c.args.disk.now c.add_messages-published.new.disk c.self.view_is (sym c.publish_reply.ensures) (put_is _ _ _ _ found c.add_messages-published.new.topic)
-    (published_goes g.D.Disk.moment g.D.Disk.image g.D.Disk.left_since g.D.Disk.faults g.D.Disk.part_faults _ c.self.invariant (subst IsWhole (sym c.self.view_is) c.requires.whole) c.args.disk.now c.add_messages-published.new.disk (subst (IsBacked (g.D.Disk.image c.args.disk.now)) (sym c.self.view_is) c.requires.backed) c.args.topic.now c.args.txn c.args.bodies.now c.in-Some.number (ap (λ (ns : List (List ℕ)). part_of ns c.args.topic.now) (sym c.deref.ensures.value) ∙ sym c.part_of.ensures.value ∙ c.in-Some.is) (sym c.foreign.ensures ∙ c.in_default-foreign.is) (sym (ap (are_too_big c.self.inside.limits) c.as_slice.ensures) ∙ sym c.are_too_big.ensures ∙ c.if-are_too_big.false) c.index_mut.result.now (at_known _ _ _ _ found _ c.index_mut.ensures.value) (free_here _ _ _ found c.args.txn c.why_not.result c.index_mut.result.now c.index_mut.ensures.value (why_view _ c.args.self.now c.in-Some.number c.args.txn c.why_not.result c.self.view_is c.why_not.ensures) c.in_default-why_not.is) c.requires.some
-    c.add_messages-published.new.topic c.add_messages-published.result _ (after_call c.index_mut.result.now c.add_messages-published.new.topic c.args.txn (contents_of c.deref-2.result.now) c.args.bodies.now c.add_messages-published.result _ c.args.disk.now c.add_messages-published.new.disk (ap contents_of c.deref-2.ensures.value ∙ c.in-Ok-bytes_of.ensures.copies ∙ c.as_slice-2.ensures) c.add_messages-published.ensures.ok c.add_messages-published.ensures.fault c.add_messages-published.ensures.refused c.add_messages-published.ensures.no_memory c.add_messages-published.ensures.not_damaged) (full_here c.self.inside.limits _ _ _ c.args.bodies.now _ (is_topic_at _ c.self.invariant _ _ found.below (at_known _ _ _ _ found _ c.index_mut.ensures.value)).limits_are (count_of c.deref-2.result.now c.args.bodies.now (ap contents_of c.deref-2.ensures.value ∙ c.in-Ok-bytes_of.ensures.copies ∙ c.as_slice-2.ensures)) c.add_messages-published.ensures.full) (batch_records c.self.inside.limits c.self.invariant.range c.args.txn (search rules) c.args.bodies.now (are_bodies c.self.inside.limits c.self.inside.limits c.args.bodies.now c.args.bodies.now refl c.self.invariant.range refl (subst (λ (x : List (List ℕ)). All IsUtf8 x) c.as_slice-2.ensures c.in-Ok-bytes_of.ensures.texts) (sym (ap (are_too_big c.self.inside.limits) c.as_slice.ensures) ∙ sym c.are_too_big.ensures ∙ c.if-are_too_big.false) c.requires.some).each) (λ n e. (c.add_messages-published.ensures.refused n e).1) (λ e. (c.add_messages-published.ensures.no_memory e).1) c.add_messages-published.ensures.tied c.add_messages-published.ensures.backed (subst (λ (bs : List (List ℕ)). Since g.D.Disk.moment g.D.Disk.image g.D.Disk.left_since (Appends IsFile StandsIn c.index_mut.result.now.content (batch_of (messages_of c.args.txn bs))) c.args.disk.now c.add_messages-published.new.disk) (ap contents_of c.deref-2.ensures.value ∙ c.in-Ok-bytes_of.ensures.copies ∙ c.as_slice-2.ensures) c.add_messages-published.ensures.images) c.add_messages-published.ensures.cause)
+    goes_to g.D.Disk.moment g.D.Disk.image g.D.Disk.left_since g.D.Disk.seen g.D.Disk.faults g.D.Disk.part_faults _ _ _ _ _ _ c.args.disk.now c.add_messages-published.new.disk c.self.view_is (sym c.publish_reply.ensures) (put_is _ _ _ _ found c.add_messages-published.new.topic)
+    (published_goes g.D.Disk.moment g.D.Disk.image g.D.Disk.left_since g.D.Disk.seen g.D.Disk.faults g.D.Disk.part_faults _ c.self.invariant (subst IsWhole (sym c.self.view_is) c.requires.whole) c.args.disk.now c.add_messages-published.new.disk (subst (IsBacked (g.D.Disk.image c.args.disk.now)) (sym c.self.view_is) c.requires.backed) c.args.topic.now c.args.txn c.args.bodies.now c.in-Some.number (ap (λ (ns : List (List ℕ)). part_of ns c.args.topic.now) (sym c.deref.ensures.value) ∙ sym c.part_of.ensures.value ∙ c.in-Some.is) (sym c.foreign.ensures ∙ c.in_default-foreign.is) (sym (ap (are_too_big c.self.inside.limits) c.as_slice.ensures) ∙ sym c.are_too_big.ensures ∙ c.if-are_too_big.false) c.index_mut.result.now (at_known _ _ _ _ found _ c.index_mut.ensures.value) (free_here _ _ _ found c.args.txn c.why_not.result c.index_mut.result.now c.index_mut.ensures.value (why_view _ c.args.self.now c.in-Some.number c.args.txn c.why_not.result c.self.view_is c.why_not.ensures) c.in_default-why_not.is) c.requires.some
+    c.add_messages-published.new.topic c.add_messages-published.result _ (after_call c.index_mut.result.now c.add_messages-published.new.topic c.args.txn (contents_of c.deref-2.result.now) c.args.bodies.now c.add_messages-published.result _ c.args.disk.now c.add_messages-published.new.disk (ap contents_of c.deref-2.ensures.value ∙ c.in-Ok-bytes_of.ensures.copies ∙ c.as_slice-2.ensures) c.add_messages-published.ensures.ok c.add_messages-published.ensures.fault c.add_messages-published.ensures.refused c.add_messages-published.ensures.no_memory c.add_messages-published.ensures.not_damaged) (full_here c.self.inside.limits _ _ _ c.args.bodies.now _ (is_topic_at _ c.self.invariant _ _ found.below (at_known _ _ _ _ found _ c.index_mut.ensures.value)).limits_are (count_of c.deref-2.result.now c.args.bodies.now (ap contents_of c.deref-2.ensures.value ∙ c.in-Ok-bytes_of.ensures.copies ∙ c.as_slice-2.ensures)) c.add_messages-published.ensures.full) (batch_records c.self.inside.limits c.self.invariant.range c.args.txn (search rules) c.args.bodies.now (are_bodies c.self.inside.limits c.self.inside.limits c.args.bodies.now c.args.bodies.now refl c.self.invariant.range refl (subst (λ (x : List (List ℕ)). All IsUtf8 x) c.as_slice-2.ensures c.in-Ok-bytes_of.ensures.texts) (sym (ap (are_too_big c.self.inside.limits) c.as_slice.ensures) ∙ sym c.are_too_big.ensures ∙ c.if-are_too_big.false) c.requires.some).each) (λ n e. (c.add_messages-published.ensures.refused n e).1) (λ e. (c.add_messages-published.ensures.no_memory e).1) c.add_messages-published.ensures.tied c.add_messages-published.ensures.backed (subst (λ (bs : List (List ℕ)). Since g.D.Disk.moment g.D.Disk.image g.D.Disk.left_since (Appends IsFile StandsIn c.index_mut.result.now.content (batch_of (messages_of c.args.txn bs))) c.args.disk.now c.add_messages-published.new.disk) (ap contents_of c.deref-2.ensures.value ∙ c.in-Ok-bytes_of.ensures.copies ∙ c.as_slice-2.ensures) c.add_messages-published.ensures.images) c.add_messages-published.ensures.others c.add_messages-published.ensures.cause)
+
+pub returns-in_default-clause-undamaged : goal.returns-in_default-clause-undamaged
+returns-in_default-clause-undamaged g c = unknown_sound c.args.topic.now c.unknown_part.result c.unknown_part.ensures
+
+pub returns-in-Some-why_not-clause-undamaged : goal.returns-in-Some-why_not-clause-undamaged
+returns-in-Some-why_not-clause-undamaged g c = ap (λ row. is_damage (reply.No row)) c.why_refusal.ensures ∙ why_sound c.args.topic.now c.in-Some-why_not.why
+
+pub returns-clause-undamaged : goal.returns-clause-undamaged
+returns-clause-undamaged g c = ap is_damage c.publish_reply.ensures ∙ published_sound c.args.topic.now c.len-2.result c.add_messages-published.result c.add_messages-published.ensures.not_damaged
+
+pub returns-in_default-clause-named : goal.returns-in_default-clause-named
+returns-in_default-clause-named g c = unknown_named c.args.self.now.names (RoseFor (g.D.Disk.faults c.args.disk.now) (g.D.Disk.faults c.args.disk.now) (g.D.Disk.part_faults c.args.disk.now) (g.D.Disk.part_faults c.args.disk.now)) c.args.topic.now c.unknown_part.result c.unknown_part.ensures
+
+pub returns-in-Some-why_not-clause-named : goal.returns-in-Some-why_not-clause-named
+returns-in-Some-why_not-clause-named g c =
+    named_for c.args.self.now.names (RoseFor (g.D.Disk.faults c.args.disk.now) (g.D.Disk.faults c.args.disk.now) (g.D.Disk.part_faults c.args.disk.now) (g.D.Disk.part_faults c.args.disk.now)) _ _ (ap (λ row. reply.No row) c.why_refusal.ensures) (why_named c.args.self.now.names (RoseFor (g.D.Disk.faults c.args.disk.now) (g.D.Disk.faults c.args.disk.now) (g.D.Disk.part_faults c.args.disk.now) (g.D.Disk.part_faults c.args.disk.now)) c.args.topic.now c.in-Some-why_not.why)
+
+pub returns-clause-named : goal.returns-clause-named
+returns-clause-named g c =
+    named_for c.args.self.now.names (RoseFor (g.D.Disk.faults c.args.disk.now) (g.D.Disk.faults c.add_messages-published.new.disk) (g.D.Disk.part_faults c.args.disk.now) (g.D.Disk.part_faults c.add_messages-published.new.disk)) _ _ c.publish_reply.ensures
+    (published_named c.args.self.now.names (RoseFor (g.D.Disk.faults c.args.disk.now) (g.D.Disk.faults c.add_messages-published.new.disk) (g.D.Disk.part_faults c.args.disk.now) (g.D.Disk.part_faults c.add_messages-published.new.disk)) c.args.topic.now c.len-2.result c.add_messages-published.result
+    (λ e. topic_rose _ c.args.self.now c.self.view_is c.self.invariant (g.D.Disk.faults c.args.disk.now) (g.D.Disk.faults c.add_messages-published.new.disk) (g.D.Disk.part_faults c.args.disk.now) (g.D.Disk.part_faults c.add_messages-published.new.disk) c.args.topic.now c.in-Some.number (ap (λ (ns : List (List ℕ)). part_of ns c.args.topic.now) (sym c.deref.ensures.value) ∙ sym c.part_of.ensures.value ∙ c.in-Some.is) c.index_mut.result.now c.index_mut.ensures.value (c.add_messages-published.ensures.cause.failed e) c.args.topic.now refl))
+
+pub returns-in_default-clause-early : goal.returns-in_default-clause-early
+returns-in_default-clause-early g c = its_row c.args.self.now c.args.self.now refl (request.Publish c.args.topic.now c.args.txn c.args.bodies.now) c.unknown_part.result (no.UnknownPart c.args.topic.now) (unknown_publish c.args.self.now.limits c.args.self.now c.args.topic.now c.args.bodies.now c.args.txn (ap (λ (v : EngineView). part_of v.names c.args.topic.now) (sym c.self.view_is) ∙ ap (λ (ns : List (List ℕ)). part_of ns c.args.topic.now) (sym c.deref.ensures.value) ∙ sym c.part_of.ensures.value ∙ c.in_default.is)) c.unknown_part.ensures
+
+pub returns-in-Some-foreign-clause-early : goal.returns-in-Some-foreign-clause-early
+returns-in-Some-foreign-clause-early g c = its_row c.args.self.now c.args.self.now refl (request.Publish c.args.topic.now c.args.txn c.args.bodies.now) (reply.No (no.UnknownCoordinator c.in-Some-foreign.number)) (no.UnknownCoordinator c.in-Some-foreign.number) (foreign_publish c.args.self.now.limits c.args.self.now c.args.topic.now c.args.bodies.now c.args.txn c.in-Some.number c.in-Some-foreign.number (ap (λ (v : EngineView). part_of v.names c.args.topic.now) (sym c.self.view_is) ∙ ap (λ (ns : List (List ℕ)). part_of ns c.args.topic.now) (sym c.deref.ensures.value) ∙ sym c.part_of.ensures.value ∙ c.in-Some.is) (topic_kind c.args.self.now (subst IsEngine c.self.view_is c.self.invariant) c.args.topic.now c.in-Some.number (ap (λ (v : EngineView). part_of v.names c.args.topic.now) (sym c.self.view_is) ∙ ap (λ (ns : List (List ℕ)). part_of ns c.args.topic.now) (sym c.deref.ensures.value) ∙ sym c.part_of.ensures.value ∙ c.in-Some.is)) (sym c.foreign.ensures ∙ c.in-Some-foreign.is)) (inl refl)
+
+pub returns-then-are_too_big-clause-early : goal.returns-then-are_too_big-clause-early
+returns-then-are_too_big-clause-early g c = its_row c.args.self.now c.args.self.now refl (request.Publish c.args.topic.now c.args.txn c.args.bodies.now) (reply.No no.TooBig) no.TooBig (big_publish c.args.self.now.limits c.args.self.now c.args.topic.now c.args.bodies.now c.args.txn c.in-Some.number (ap (λ (v : EngineView). part_of v.names c.args.topic.now) (sym c.self.view_is) ∙ ap (λ (ns : List (List ℕ)). part_of ns c.args.topic.now) (sym c.deref.ensures.value) ∙ sym c.part_of.ensures.value ∙ c.in-Some.is) (topic_kind c.args.self.now (subst IsEngine c.self.view_is c.self.invariant) c.args.topic.now c.in-Some.number (ap (λ (v : EngineView). part_of v.names c.args.topic.now) (sym c.self.view_is) ∙ ap (λ (ns : List (List ℕ)). part_of ns c.args.topic.now) (sym c.deref.ensures.value) ∙ sym c.part_of.ensures.value ∙ c.in-Some.is)) (sym c.foreign.ensures ∙ c.in_default-foreign.is) (ap (λ (v : EngineView). are_too_big v.limits c.args.bodies.now) (sym c.self.view_is) ∙ sym (ap (are_too_big c.self.inside.limits) c.as_slice.ensures) ∙ sym c.are_too_big.ensures ∙ c.if-are_too_big.true)) (inl refl)
+
+pub returns-in-Some-why_not-clause-early : goal.returns-in-Some-why_not-clause-early
+returns-in-Some-why_not-clause-early g c = no_row c.args.self.now c.args.self.now refl (request.Publish c.args.topic.now c.args.txn c.args.bodies.now) (reply.No c.why_refusal.result) (early_publish c.args.self.now.limits c.args.self.now c.args.topic.now c.args.bodies.now c.args.txn c.in-Some.number (ap (λ (v : EngineView). part_of v.names c.args.topic.now) (sym c.self.view_is) ∙ ap (λ (ns : List (List ℕ)). part_of ns c.args.topic.now) (sym c.deref.ensures.value) ∙ sym c.part_of.ensures.value ∙ c.in-Some.is) (topic_kind c.args.self.now (subst IsEngine c.self.view_is c.self.invariant) c.args.topic.now c.in-Some.number (ap (λ (v : EngineView). part_of v.names c.args.topic.now) (sym c.self.view_is) ∙ ap (λ (ns : List (List ℕ)). part_of ns c.args.topic.now) (sym c.deref.ensures.value) ∙ sym c.part_of.ensures.value ∙ c.in-Some.is)) (sym c.foreign.ensures ∙ c.in_default-foreign.is) (ap (λ (v : EngineView). are_too_big v.limits c.args.bodies.now) (sym c.self.view_is) ∙ sym (ap (are_too_big c.self.inside.limits) c.as_slice.ensures) ∙ sym c.are_too_big.ensures ∙ c.if-are_too_big.false))
+
+pub returns-clause-early : goal.returns-clause-early
+returns-clause-early g c = no_row c.args.self.now c.args.self.now refl (request.Publish c.args.topic.now c.args.txn c.args.bodies.now) c.publish_reply.result (early_publish c.args.self.now.limits c.args.self.now c.args.topic.now c.args.bodies.now c.args.txn c.in-Some.number (ap (λ (v : EngineView). part_of v.names c.args.topic.now) (sym c.self.view_is) ∙ ap (λ (ns : List (List ℕ)). part_of ns c.args.topic.now) (sym c.deref.ensures.value) ∙ sym c.part_of.ensures.value ∙ c.in-Some.is) (topic_kind c.args.self.now (subst IsEngine c.self.view_is c.self.invariant) c.args.topic.now c.in-Some.number (ap (λ (v : EngineView). part_of v.names c.args.topic.now) (sym c.self.view_is) ∙ ap (λ (ns : List (List ℕ)). part_of ns c.args.topic.now) (sym c.deref.ensures.value) ∙ sym c.part_of.ensures.value ∙ c.in-Some.is)) (sym c.foreign.ensures ∙ c.in_default-foreign.is) (ap (λ (v : EngineView). are_too_big v.limits c.args.bodies.now) (sym c.self.view_is) ∙ sym (ap (are_too_big c.self.inside.limits) c.as_slice.ensures) ∙ sym c.are_too_big.ensures ∙ c.if-are_too_big.false))

@@ -1,4 +1,13 @@
+use Rattle.std.proofs.Common.{sym, subst}
+use Rattle.txn_base.specs.declared.request.Request.{Request}
+use Rattle.txn_engine.specs.Damage.{IsDamageIn}
 use Rattle.txn_engine.proofs.AtView.{asked_so}
+use Rattle.txn_engine.proofs.Damage.{none_told}
+use Rattle.txn_engine.specs.Told.{RoseFor}
+use Rattle.txn_engine.proofs.Faults.{none_named}
+use Rattle.txn_engine.specs.Causes.{TellsEarly}
+use Rattle.txn_engine.specs.Table.{world_of}
+use Rattle.txn_engine.proofs.Early.{none_other}
 use Rattle.txn_engine.proofs.engine.Engine.reply_to.Goals as goal
 
 pub returns-in-New-clause-answers : goal.returns-in-New-clause-answers
@@ -36,3 +45,52 @@ returns-in-Abort-clause-answers g c = λ told tied. (asked_so _ _ (g.D.Disk.part
 
 pub returns-in-Abort-clause-instead : goal.returns-in-Abort-clause-instead
 returns-in-Abort-clause-instead g c = λ told tied long. (asked_so _ _ (g.D.Disk.part_faults c.args.disk.now) (g.D.Disk.part_faults c.end-in-Abort.new.disk) _ _ _ _ _ _ c.in-Abort.is (c.end-in-Abort.ensures.told told tied c.args.now)).instead long
+
+pub returns-in-New-clause-damaged : goal.returns-in-New-clause-damaged
+returns-in-New-clause-damaged g c = none_told g.D.Disk.tells c.args.self.now c.args.request.now c.begin.result c.begin.ensures.undamaged
+
+pub returns-in-Add-clause-damaged : goal.returns-in-Add-clause-damaged
+returns-in-Add-clause-damaged g c = none_told g.D.Disk.tells c.args.self.now c.args.request.now c.add.result c.add.ensures.undamaged
+
+pub returns-in-Publish-clause-damaged : goal.returns-in-Publish-clause-damaged
+returns-in-Publish-clause-damaged g c = none_told g.D.Disk.tells c.args.self.now c.args.request.now c.publish.result c.publish.ensures.undamaged
+
+pub returns-in-Status-clause-damaged : goal.returns-in-Status-clause-damaged
+returns-in-Status-clause-damaged g c = none_told g.D.Disk.tells c.args.self.now c.args.request.now c.status.result c.status.ensures.undamaged
+
+pub returns-in-Commit-clause-damaged : goal.returns-in-Commit-clause-damaged
+returns-in-Commit-clause-damaged g c = none_told g.D.Disk.tells c.args.self.now c.args.request.now c.end.result c.end.ensures.undamaged
+
+pub returns-in-Abort-clause-damaged : goal.returns-in-Abort-clause-damaged
+returns-in-Abort-clause-damaged g c = none_told g.D.Disk.tells c.args.self.now c.args.request.now c.end-in-Abort.result c.end-in-Abort.ensures.undamaged
+
+pub returns-in-Read-clause-damaged : goal.returns-in-Read-clause-damaged
+returns-in-Read-clause-damaged g c = λ part place is. subst (λ (r : Request). IsDamageIn g.D.Disk.tells c.args.self.now r part place) (sym c.in-Read.is) (c.read.ensures.damaged part place is)
+
+pub returns-in-Status-clause-named : goal.returns-in-Status-clause-named
+returns-in-Status-clause-named g c = none_named c.args.self.now.names (RoseFor (g.D.Disk.faults c.args.disk.now) (g.D.Disk.faults c.args.disk.now) (g.D.Disk.part_faults c.args.disk.now) (g.D.Disk.part_faults c.args.disk.now)) c.status.result c.status.ensures.unnamed
+
+pub returns-in-New-clause-early : goal.returns-in-New-clause-early
+returns-in-New-clause-early g c = subst (λ (r : Request). TellsEarly c.args.self.now.limits (world_of c.args.self.now) r c.begin.result) (sym c.in-New.is) c.begin.ensures.early
+
+pub returns-in-Add-clause-early : goal.returns-in-Add-clause-early
+returns-in-Add-clause-early g c = subst (λ (r : Request). TellsEarly c.args.self.now.limits (world_of c.args.self.now) r c.add.result) (sym c.in-Add.is) c.add.ensures.early
+
+pub returns-in-Publish-clause-early : goal.returns-in-Publish-clause-early
+returns-in-Publish-clause-early g c = subst (λ (r : Request). TellsEarly c.args.self.now.limits (world_of c.args.self.now) r c.publish.result) (sym c.in-Publish.is) c.publish.ensures.early
+
+pub returns-in-Read-clause-early : goal.returns-in-Read-clause-early
+returns-in-Read-clause-early g c = subst (λ (r : Request). TellsEarly c.args.self.now.limits (world_of c.args.self.now) r c.read.result) (sym c.in-Read.is) c.read.ensures.early
+
+pub returns-in-Status-clause-early : goal.returns-in-Status-clause-early
+returns-in-Status-clause-early g c = subst (λ (r : Request). TellsEarly c.args.self.now.limits (world_of c.args.self.now) r c.status.result) (sym c.in-Status.is) c.status.ensures.early
+
+pub returns-in-Commit-clause-early : goal.returns-in-Commit-clause-early
+returns-in-Commit-clause-early g c = subst (λ (r : Request). TellsEarly c.args.self.now.limits (world_of c.args.self.now) r c.end.result) (sym c.in-Commit.is) c.end.ensures.early
+
+pub returns-in-Abort-clause-early : goal.returns-in-Abort-clause-early
+returns-in-Abort-clause-early g c = subst (λ (r : Request). TellsEarly c.args.self.now.limits (world_of c.args.self.now) r c.end-in-Abort.result) (sym c.in-Abort.is) c.end-in-Abort.ensures.early
+
+pub returns-in_default-clause-early : goal.returns-in_default-clause-early
+returns-in_default-clause-early g c = λ row is.
+    absurd (none_other c.args.request.now c.requires.asked c.in_default.not-New c.in_default.not-Add c.in_default.not-Publish c.in_default.not-Read c.in_default.not-Commit c.in_default.not-Abort c.in_default.not-Status)

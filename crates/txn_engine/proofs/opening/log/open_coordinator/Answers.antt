@@ -1,6 +1,6 @@
 use Rattle.std.proofs.Common.{ap, sym, ◌∙◌, Err}
 use Rattle.txn_model.specs.Sound.{ledger_file}
-use Rattle.txn_engine.proofs.OpeningFiles.{mended_keeps, others_then, part_none, part_then, part_at, part_but}
+use Rattle.txn_engine.proofs.OpeningFiles.{mended_keeps, others_then, not_damaged, part_none, part_then, part_at, part_but}
 use Rattle.txn_engine.proofs.OpeningLog.{opening_step, told_step, log_of, same_content, fewer, damaged_log, not_fault}
 use Rattle.txn_engine.proofs.OpeningTopic.{unmended_file, unmended_fault}
 use Rattle.txn_engine.proofs.opening.log.open_coordinator.Goals as goal
@@ -48,3 +48,11 @@ returns-clause-told g c = λ told.
 pub loop-file-smaller : goal.loop-file-smaller
 loop-file-smaller g c =
     fewer c.args.limits.now c.args.named c.loop-file.coordinator c.mend_step.new.self c.loop-file.invariant.log (sym c.is_whole.ensures.whole ∙ c.loop-file-test.true) c.in_default-mend_step.ensures.ok c.requires.limits.step.least
+
+pub returns-in-Err-mend_step-clause-uncut : goal.returns-in-Err-mend_step-clause-uncut
+returns-in-Err-mend_step-clause-uncut g c = λ tells.
+    not_damaged (g.D.Disk.seen c.args.disk.now (ledger_file 0)) (g.D.Disk.seen c.mend_step.new.disk (ledger_file 0)) c.loop-file.coordinator.content.batches (c.loop-file.invariant.told tells).stands
+
+pub returns-clause-uncut : goal.returns-clause-uncut
+returns-clause-uncut g c = λ tells.
+    not_damaged (g.D.Disk.seen c.args.disk.now (ledger_file 0)) (g.D.Disk.seen c.loop-file.disk (ledger_file 0)) c.loop-file.coordinator.content.batches (c.loop-file.invariant.told tells).stands

@@ -1,6 +1,6 @@
 use Rattle.std.proofs.Common.{ap, sym, ◌∙◌, Err}
 use Rattle.txn_model.specs.Sound.{ledger_file}
-use Rattle.txn_engine.proofs.OpeningFiles.{mended_keeps, others_then, part_none, part_then, part_at, part_but}
+use Rattle.txn_engine.proofs.OpeningFiles.{mended_keeps, others_then, not_damaged, part_none, part_then, part_at, part_but}
 use Rattle.txn_engine.proofs.OpeningTopic.{opening_step, told_step, topic_of, damaged_topic, unmended_file, unmended_fault}
 use Rattle.txn_engine.proofs.opening.topics.open_topic.Goals as goal
 
@@ -43,3 +43,11 @@ returns-in-Err-mend_step-clause-cause g c =
 pub returns-clause-told : goal.returns-clause-told
 returns-clause-told g c = λ told.
     topic_of c.args.limits.now c.args.part c.loop-file.topic (g.D.Disk.seen c.args.disk.now (ledger_file c.args.part)) c.loop-file.invariant.part (sym c.is_whole.ensures.whole ∙ c.loop-file-test.false) c.is_whole.ensures.lawful (c.loop-file.invariant.told told)
+
+pub returns-in-Err-mend_step-clause-uncut : goal.returns-in-Err-mend_step-clause-uncut
+returns-in-Err-mend_step-clause-uncut g c = λ tells.
+    not_damaged (g.D.Disk.seen c.args.disk.now (ledger_file c.args.part)) (g.D.Disk.seen c.mend_step.new.disk (ledger_file c.args.part)) c.loop-file.topic.content.batches (c.loop-file.invariant.told tells).stands
+
+pub returns-clause-uncut : goal.returns-clause-uncut
+returns-clause-uncut g c = λ tells.
+    not_damaged (g.D.Disk.seen c.args.disk.now (ledger_file c.args.part)) (g.D.Disk.seen c.loop-file.disk (ledger_file c.args.part)) c.loop-file.topic.content.batches (c.loop-file.invariant.told tells).stands
