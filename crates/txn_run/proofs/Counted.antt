@@ -11,11 +11,11 @@ use Rattle.txn_run.specs.declared.status.RunStatus.TheVariants as status
 
 counted_in : (ended : RunStatus) (limits : Limits) (s : Standing) (old : Option (List ℕ)) (taken : List ℕ) (s' : Standing) (new left : Option (List ℕ)) (h : Ended ended limits s old taken s' new left)
     → min (s.faults + count_faults (replies_in ended limits s old taken s' new left h)) (2 ^ 64 - 1) ≤ s'.faults
-counted_in status.Ok limits s old taken s' new left (at_end, within, so) = replies_paid limits s (line_kinds limits (lines_of taken)) so.told s' so.replies
-counted_in status.ReadFault limits s old taken s' new left (within, so) = replies_paid limits s (line_kinds limits (whole_lines taken)) so.told s' so.replies
-counted_in status.WriteFault limits s old taken s' new left (within, (lines, more, split, so)) = replies_paid limits s (line_kinds limits lines) so.told s' so.replies
-counted_in status.DiskFault limits s old taken s' new left (within, (lines, more, split, so)) = replies_paid limits s (line_kinds limits lines) (so.told ++ so.last ∷ []) s' so.replies
-counted_in status.TooMuch limits s old taken s' new left (all, so) = replies_paid limits s (line_kinds limits (whole_lines taken)) so.told s' so.replies
+counted_in status.Ok limits s old taken s' new left (at_end, within, rebuilt, so) = replies_paid limits s (line_kinds limits (lines_of taken)) so.told s' so.replies
+counted_in status.ReadFault limits s old taken s' new left (within, rebuilt, so) = replies_paid limits s (line_kinds limits (whole_lines taken)) so.told s' so.replies
+counted_in status.WriteFault limits s old taken s' new left (within, all, are, (lines, more, split, so)) = replies_paid limits s (line_kinds limits lines) (so.told ++ so.last ∷ []) s' so.replies
+counted_in status.DiskFault limits s old taken s' new left (within, all, are, (lines, more, split, so)) = replies_paid limits s (line_kinds limits lines) (so.told ++ so.last ∷ []) s' so.replies
+counted_in status.TooMuch limits s old taken s' new left (all, rebuilt, so) = replies_paid limits s (line_kinds limits (whole_lines taken)) so.told s' so.replies
 counted_in status.NoMemory limits s old taken s' new left h = absurd h
 counted_in (status.Usage u) limits s old taken s' new left h = absurd h
 counted_in (status.Damaged file entry) limits s old taken s' new left h = absurd h

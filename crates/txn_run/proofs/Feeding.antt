@@ -1,5 +1,5 @@
 -- What stands after bytes have come.
-use Rattle.std.proofs.Common.{◌≡◌, ℕ, ◌+◌, List, [], ◌∷◌, ◌++◌, length, fold, Bool, true, false, cond, ◌==◌, Option, refl, sym, ap, ap₂, ◌∙◌, subst, ◌≤◌, length-append, append_assoc, append-nil, arith}
+use Rattle.std.proofs.Common.{◌≡◌, ℕ, ◌+◌, List, [], ◌∷◌, ◌++◌, length, fold, Bool, true, false, cond, ◌==◌, Option, inl, refl, sym, ap, ap₂, ◌∙◌, subst, ◌≤◌, length-append, append_assoc, append-nil, arith}
 use Rattle.std.proofs.lemmas.Bool.Decides.{nat_tests}
 use Rattle.std.specs.Io.KnownBytes.{Consumes}
 use Rattle.std.proofs.KnownBytes.{Consumes-trans}
@@ -10,6 +10,7 @@ use Rattle.txn_model.specs.Replies.{Standing}
 use Rattle.txn_run.specs.Kinds.{line_kind}
 use Rattle.txn_run.specs.Told.{ToldLine, ToldFront, ToldFault, Told, Broken, Stopped}
 use Rattle.txn_run.specs.Going.{Stands, Going, GoesOn, BreaksOff, StopsIn, Reading}
+use Rattle.txn_run.specs.Run.{AreLines}
 use Rattle.txn_run.specs.declared.pending.Pending.{Pending}
 use Rattle.txn_run.proofs.Telling.{told_push, cut_off_push, fault_push}
 
@@ -57,15 +58,6 @@ broken_more limits first old xs ys s' h' (lines, more, e, off) =
 pub stopped_more : (limits : Limits) (first : Standing) (old : Option (List ℕ)) (xs ys : List ℕ) (s' : Standing) (h' : Option (List ℕ)) → Stopped limits first old (whole_lines xs) s' h' → Stopped limits first old (whole_lines (xs ++ ys)) s' h'
 stopped_more limits first old xs ys s' h' (lines, more, e, off) =
     let g = whole_more xs ys in (lines, more ++ g.0, g.1 ∙ ap (λ x. x ++ g.0) e ∙ append_assoc lines more g.0, off)
-
--- the lines that have ended are first among all lines
-pub broken_lines : (limits : Limits) (first : Standing) (old : Option (List ℕ)) (xs : List ℕ) (s' : Standing) (h' : Option (List ℕ)) → Broken limits first old (whole_lines xs) s' h' → Broken limits first old (lines_of xs) s' h'
-broken_lines limits first old xs s' h' (lines, more, e, off) =
-    (lines, more ++ piece_lines (last_piece xs), ap (λ x. x ++ piece_lines (last_piece xs)) e ∙ append_assoc lines more _, off)
-
-pub stopped_lines : (limits : Limits) (first : Standing) (old : Option (List ℕ)) (xs : List ℕ) (s' : Standing) (h' : Option (List ℕ)) → Stopped limits first old (whole_lines xs) s' h' → Stopped limits first old (lines_of xs) s' h'
-stopped_lines limits first old xs s' h' (lines, more, e, off) =
-    (lines, more ++ piece_lines (last_piece xs), ap (λ x. x ++ piece_lines (last_piece xs)) e ∙ append_assoc lines more _, off)
 
 -- ---- one stretch of bytes after another
 
@@ -141,16 +133,16 @@ reads_more limits s old left taken p u mid left' bytes n left'' p' v new r came 
 
 pub reads_broken : (limits : Limits) (input : ℕ) (s : Standing) (old left : Option (List ℕ)) (taken : ℕ) (p : Pending) (u : Standing) (mid left' : Option (List ℕ)) (bytes : List ℕ) (n : ℕ) (left'' : Option (List ℕ)) (v : Standing) (new : Option (List ℕ))
     → Reading limits s old left taken p u mid left' → Consumes left' left'' bytes → length bytes ≡ n → taken + n ≤ input → BreaksOff limits bytes p u mid v new
-    → (all : List ℕ) × Consumes left left'' all × ((length all ≤ input) × Broken limits s old (lines_of all) v new)
+    → (all : List ℕ) × Consumes left left'' all × ((length all ≤ input) × (lines : List (List ℕ)) × AreLines limits all left'' lines × Broken limits s old lines v new)
 reads_broken limits input s old left taken p u mid left' bytes n left'' v new r came long within breaks =
     let all = r.fed ++ bytes in
     let count : length all ≡ taken + n = length-append r.fed bytes ∙ ap₂ (λ a b. a + b) r.count long in
-    (all, Consumes-trans left left' left'' r.fed bytes r.came came, (omega (arith, count), broken_lines limits s old all v new (breaks s old r.fed r.going)))
+    (all, Consumes-trans left left' left'' r.fed bytes r.came came, (omega (arith, count), whole_lines all, inl refl, breaks s old r.fed r.going))
 
 pub reads_stopped : (limits : Limits) (input : ℕ) (s : Standing) (old left : Option (List ℕ)) (taken : ℕ) (p : Pending) (u : Standing) (mid left' : Option (List ℕ)) (bytes : List ℕ) (n : ℕ) (left'' : Option (List ℕ)) (v : Standing) (new : Option (List ℕ))
     → Reading limits s old left taken p u mid left' → Consumes left' left'' bytes → length bytes ≡ n → taken + n ≤ input → StopsIn limits bytes p u mid v new
-    → (all : List ℕ) × Consumes left left'' all × ((length all ≤ input) × Stopped limits s old (lines_of all) v new)
+    → (all : List ℕ) × Consumes left left'' all × ((length all ≤ input) × (lines : List (List ℕ)) × AreLines limits all left'' lines × Stopped limits s old lines v new)
 reads_stopped limits input s old left taken p u mid left' bytes n left'' v new r came long within stops =
     let all = r.fed ++ bytes in
     let count : length all ≡ taken + n = length-append r.fed bytes ∙ ap₂ (λ a b. a + b) r.count long in
-    (all, Consumes-trans left left' left'' r.fed bytes r.came came, (omega (arith, count), stopped_lines limits s old all v new (stops s old r.fed r.going)))
+    (all, Consumes-trans left left' left'' r.fed bytes r.came came, (omega (arith, count), whole_lines all, inl refl, stops s old r.fed r.going))

@@ -2,10 +2,12 @@ pub mod Keeping
 pub mod LineKinds
 pub mod Answering
 pub mod Telling
+pub mod Fenced
 pub mod Feeding
 pub mod Reading
 pub mod Counted
 pub mod FirstState
 pub mod Undamaged
 pub mod Running
+pub mod Effects
 pub mod Promised

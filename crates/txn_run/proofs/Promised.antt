@@ -1,27 +1,36 @@
 -- A lawful world keeps the promises, and one that extends another lets nothing lapse.
-use Rattle.std.proofs.Common.{◌≡◌, ℕ, ◌≤◌, List, ◌++◌, length, Some, sym, subst}
+use Rattle.std.proofs.Common.{◌≡◌, ℕ, ◌≤◌, Bool, false, if◌then◌else◌, List, ◌++◌, length, Some, sym, ap, ◌∙◌, subst}
 use mathlib.Core.List.{IsPrefix}
 use Rattle.txn_base.specs.declared.core_entry.CoreEntry.{CoreEntry}
 use Rattle.txn_base.specs.declared.entry.CoordEntry.{CoordEntry}
 use Rattle.txn_base.specs.declared.entry.TopicEntry.{TopicEntry}
+use Rattle.txn_base.specs.declared.txn.Decision.TheVariants.{Commit}
 use Rattle.txn_base.specs.Disk.{Files}
+use Rattle.txn_base.specs.Names.{is_sub}
 use Rattle.txn_model.specs.declared.world.World.{World}
 use Rattle.txn_model.specs.Coord.{CoordLawful, decision_of}
-use Rattle.txn_model.specs.Skeletons.{coord_skeleton, coord_skeletons}
-use Rattle.txn_model.specs.World.{Lawful, Extends}
+use Rattle.txn_model.specs.Names.{name_of}
+use Rattle.txn_model.specs.Skeletons.{coord_skeleton, coord_skeletons, topic_skeletons, ack_skeletons}
+use Rattle.txn_model.specs.World.{Lawful, Extends, log_of, part_skeletons}
 use Rattle.txn_model.specs.Words.{list_at}
-use Rattle.txn_model.specs.Topic.{visible_of, limit_of}
+use Rattle.txn_model.specs.Topic.{visible_of, limit_of, marker_of}
 use Rattle.txn_model.proofs.Below.{visible_below}
 use Rattle.txn_model.proofs.LawfulGrowth.{decision_stays}
 use Rattle.txn_model.proofs.Prefixes.{map_append, visible_longer, limit_longer}
 use Rattle.txn_model.proofs.Statuses.{undecided_before}
 use Rattle.txn_engine.specs.Above.{StandsAbove}
+use Rattle.txn_run.proofs.Effects.{all_effects}
 use Rattle.txn_run.specs.Promises.{Promises, NeverLapses, KeepsPromises}
+
+-- the list of a topic is that of its part
+topic_of : (w : World) (p : ℕ) → is_sub (name_of w.names p) ≡ false → part_skeletons w p ≡ topic_skeletons (list_at w.topics p)
+topic_of w p topic = ap (λ (b : Bool). if b then ack_skeletons (list_at w.subs p) else topic_skeletons (list_at w.topics p)) topic
 
 promised : (w : World) → Lawful w → Promises w
 promised w lawful = record {
   cursor = λ p. visible_below (list_at w.topics p);
   registered = lawful.registered;
+  effect = λ p topic. all_effects (log_of w) (list_at w.topics p) (λ x marked. lawful.decided p x Commit (ap (λ (c : List CoreEntry). marker_of c x) (topic_of w p topic) ∙ marked));
   decided = lawful.decided;
   complete = lawful.closed;
   once = λ c more x d e. undecided_before (length w.names) c x d more (subst (CoordLawful (length w.names)) e lawful.coord);

@@ -6,6 +6,7 @@ use Rattle.txn_base.specs.declared.limits.Limits.{Limits}
 use Rattle.txn_model.specs.Replies.{Standing}
 use Rattle.txn_run.specs.Going.{Going, Reading}
 use Rattle.txn_run.specs.declared.pending.Pending.{Pending}
+use Rattle.txn_run.specs.declared.status.RunStatus.TheVariants as status
 
 none_of : (n : ℕ) (chunk : List ℕ) → n ≡ 0 → take n chunk ≡ []
 none_of n chunk e = rw e refl
@@ -50,3 +51,23 @@ none_so_far taken bytes long none = sym long ∙ ap length none
 
 pub never_none : (taken n : ℕ) (bytes : List ℕ) → length bytes ≡ taken + n → (n ≡ 0 → ⊥) → bytes ≡ [] → ⊥
 never_none taken n bytes long some none = none_taken taken n some (sym long ∙ ap length none)
+
+-- ---- the ends are apart
+
+pub write_no_too_much : status.WriteFault ≡ status.TooMuch → ⊥
+write_no_too_much h = cc
+
+pub write_no_ok : status.WriteFault ≡ status.Ok → ⊥
+write_no_ok h = cc
+
+pub write_no_read_fault : status.WriteFault ≡ status.ReadFault → ⊥
+write_no_read_fault h = cc
+
+pub disk_no_too_much : status.DiskFault ≡ status.TooMuch → ⊥
+disk_no_too_much h = cc
+
+pub disk_no_ok : status.DiskFault ≡ status.Ok → ⊥
+disk_no_ok h = cc
+
+pub disk_no_read_fault : status.DiskFault ≡ status.ReadFault → ⊥
+disk_no_read_fault h = cc

@@ -1,9 +1,8 @@
 -- What stands after a line was told.
-use Rattle.std.proofs.Common.{◌⊎◌, ◌↔◌, IsTrue, true≢false, ◌≡◌, ℕ, ◌+◌, List, [], ◌∷◌, ◌++◌, length, take, Bool, true, false, Option, Result, Ok, Err, OnOk, OnErr, inl, inr, refl, sym, ap, ◌∙◌, subst, append_assoc, append-nil}
+use Rattle.std.proofs.Common.{◌⊎◌, ◌↔◌, IsTrue, true≢false, ◌≡◌, ℕ, List, [], ◌∷◌, ◌++◌, take, Bool, true, false, Option, Result, Ok, Err, OnOk, OnErr, inl, inr, refl, sym, ap, ◌∙◌, subst, append_assoc, append-nil}
 use Rattle.std.specs.Io.KnownBytes.{Appends}
 use Rattle.std.proofs.KnownBytes.{Appends-nil, Appends-trans}
 use Rattle.std.proofs.lemmas.Grind.{flat_map-append}
-use Rattle.std.proofs.Math.Seq.{take-append-add}
 use Rattle.txn_base.specs.Outside.{PutsAll}
 use Rattle.txn_base.specs.declared.limits.Limits.{Limits}
 use Rattle.txn_base.specs.declared.reply.Reply.{Reply}
@@ -13,7 +12,7 @@ use Rattle.txn_model.specs.Replies.{Standing, Kind, Replied, Replies, is_fault}
 use Rattle.txn_wire.specs.Replies.{text_of}
 use Rattle.txn_wire.specs.Short.{is_long}
 use Rattle.txn_run.specs.Kinds.{line_kind, line_kinds}
-use Rattle.txn_run.specs.Told.{texts, Grows, EndsWithFault, ToldLine, ToldFront, ToldFault, Told, ToldToFault, CutOff, StandsFor, MayTell}
+use Rattle.txn_run.specs.Told.{SomeFenced, texts, Grows, EndsWithFault, ToldLine, ToldFront, ToldFault, Told, ToldToFault, CutOff, StandsFor, MayTell}
 
 -- ---- one reply, or want of memory in its place
 
@@ -28,8 +27,7 @@ pub told_line : (limits : Limits) (s : Standing) (kind : Kind) (r told : Reply) 
 told_line limits s kind r told s' old new h stands put = (told ∷ [], replied_instead limits s kind r told s' h stands, subst (Appends old new) (text_of_one told) put)
 
 pub told_front : (limits : Limits) (s : Standing) (kind : Kind) (r told : Reply) (s' : Standing) (old new : Option (List ℕ)) (n : ℕ) → MayTell limits s kind r s' → StandsFor r told → Appends old new (take n (text_of told)) → ToldFront limits s kind s' old new
-told_front limits s kind r told s' old new n h stands put =
-    (told ∷ [], n, replied_instead limits s kind r told s' h stands, subst (λ x. Appends old new (take n x)) (text_of_one told) put)
+told_front limits s kind r told s' old new n h stands put = (told, n, replied_instead limits s kind r told s' h stands, put)
 
 -- ---- what a call's result says
 
@@ -67,20 +65,22 @@ told_push limits s lines m line s' old mid new so (more, r, put) = record {
 }
 
 pub fault_push : (limits : Limits) (s : Standing) (lines : List (List ℕ)) (m : Standing) (line : List ℕ) (s' : Standing) (old mid new : Option (List ℕ)) → Told limits s lines m old mid → ToldFault limits m (line_kind limits line) s' mid new → ToldToFault limits s (lines ++ line ∷ []) s' old new
-fault_push limits s lines m line s' old mid new so (one, r, fault, put) = record {
+fault_push limits s lines m line s' old mid new so (one, r, fault, fenced, put) = record {
   told = so.told;
   last = one;
   replies = replies_line limits s lines so.told m line (one ∷ []) s' so.replies r;
   fault = fault;
+  fenced = fenced;
   put = subst (Appends old new) (sym (flat_map-append text_of so.told (one ∷ []))) (Appends-trans old mid new (texts so.told) (texts (one ∷ [])) so.put put);
 }
 
 pub cut_off_push : (limits : Limits) (s : Standing) (lines : List (List ℕ)) (m : Standing) (line : List ℕ) (s' : Standing) (old mid new : Option (List ℕ)) → Told limits s lines m old mid → ToldFront limits m (line_kind limits line) s' mid new → CutOff limits s (lines ++ line ∷ []) s' old new
-cut_off_push limits s lines m line s' old mid new so (more, n, r, put) = record {
-  told = so.told ++ more;
-  count = length (texts so.told) + n;
-  replies = replies_line limits s lines so.told m line more s' so.replies r;
-  put = subst (Appends old new) (sym (ap (take (length (texts so.told) + n)) (flat_map-append text_of so.told more) ∙ take-append-add (texts so.told) (texts more) n)) (Appends-trans old mid new (texts so.told) (take n (texts more)) so.put put);
+cut_off_push limits s lines m line s' old mid new so (one, n, r, put) = record {
+  told = so.told;
+  last = one;
+  count = n;
+  replies = replies_line limits s lines so.told m line (one ∷ []) s' so.replies r;
+  put = Appends-trans old mid new (texts so.told) (take n (text_of one)) so.put put;
 }
 
 -- ---- a fault that was told
@@ -120,10 +120,10 @@ long_no_fault (reply.No (no.AlreadyAcked a)) long fault = cc
 long_no_fault (reply.No (no.Conflict a b)) long fault = cc
 long_no_fault (reply.No (no.Full a b)) long fault = cc
 
-pub told_fault : (limits : Limits) (s : Standing) (kind : Kind) (r told : Reply) (s' : Standing) (old new : Option (List ℕ)) → MayTell limits s kind r s' → StandsFor r told → is_fault r ≡ true → Appends old new (text_of told) → ToldFault limits s kind s' old new
-told_fault limits s kind r told s' old new h (inl e) fault put =
-    (told, subst (λ x. Replied limits s kind (x ∷ []) s') (sym e) h.told, ap is_fault e ∙ fault, subst (Appends old new) (text_of_one told) put)
-told_fault limits s kind r told s' old new h (inr e) fault put = absurd (long_no_fault r e.1 fault)
+pub told_fault : (limits : Limits) (s : Standing) (kind : Kind) (r told : Reply) (s' : Standing) (old new : Option (List ℕ)) → MayTell limits s kind r s' → StandsFor r told → is_fault r ≡ true → SomeFenced s'.table → Appends old new (text_of told) → ToldFault limits s kind s' old new
+told_fault limits s kind r told s' old new h (inl e) fault fenced put =
+    (told, subst (λ x. Replied limits s kind (x ∷ []) s') (sym e) h.told, ap is_fault e ∙ fault, fenced, subst (Appends old new) (text_of_one told) put)
+told_fault limits s kind r told s' old new h (inr e) fault fenced put = absurd (long_no_fault r e.1 fault)
 
 -- an engine that isn't whole told a fault
 pub not_whole : (P : Type 0) (whole fault : Bool) → whole ≡ false → IsTrue whole ↔ P → P ⊎ (fault ≡ true) → fault ≡ true

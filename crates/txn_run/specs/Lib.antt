@@ -1,4 +1,5 @@
 pub mod Before
+pub mod Files
 pub mod Going
 pub mod Kinds
 pub mod Promises

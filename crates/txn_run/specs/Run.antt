@@ -11,7 +11,7 @@ use Rattle.txn_model.specs.Replies.{Standing, count_faults}
 use Rattle.txn_model.specs.Sound.{StandsForKept}
 use Rattle.txn_model.specs.Table.{TableState}
 use Rattle.txn_run.specs.Before.{IsSoundBefore}
-use Rattle.txn_run.specs.Told.{Told, Broken, Stopped, EndsWithFault}
+use Rattle.txn_run.specs.Told.{AllRebuilt, Told, Broken, Stopped, EndsWithFault}
 use Rattle.txn_run.specs.declared.status.RunStatus.{RunStatus}
 use Rattle.txn_run.specs.declared.status.RunStatus.TheVariants as status
 
@@ -19,25 +19,30 @@ use Rattle.txn_run.specs.declared.status.RunStatus.TheVariants as status
 abbrev pub Leaves : List (List ℕ) → TableState → Files → Type 0
 Leaves names t c = StandsForKept names c t.world t.flights
 
+-- These lines came with what was taken: those that had ended; or all, where the input ended below its limit.
+abbrev pub AreLines : Limits → List ℕ → Option (List ℕ) → List (List ℕ) → Type 0
+AreLines limits taken left all = (all ≡ whole_lines taken) ⊎ (IsAtEnd left × (length taken < limits.input) × (all ≡ lines_of taken))
+
 -- From s, these bytes were taken, and what was put is the texts of the replies of the table, which leave s': to all lines
--- (0); to the lines that had ended (3, 7); a front of them (4); those up to a fault, which is the last (5).
+-- (0); to the lines that had ended (3, 7); to a front of the lines, and of the text of the last reply a front (4); those up
+-- to a fault that leaves a part not rebuilt, which is the last (5). With 0, 3 and 7 every part is rebuilt.
 abbrev pub Ended : RunStatus → Limits → Standing → Option (List ℕ) → List ℕ → Standing → Option (List ℕ) → Option (List ℕ) → Type 0
-Ended status.Ok limits s old taken s' new left = IsAtEnd left × (length taken < limits.input) × Told limits s (lines_of taken) s' old new
-Ended status.ReadFault limits s old taken s' new left = (length taken < limits.input) × Told limits s (whole_lines taken) s' old new
-Ended status.WriteFault limits s old taken s' new left = (length taken ≤ limits.input) × Broken limits s old (lines_of taken) s' new
-Ended status.DiskFault limits s old taken s' new left = (length taken ≤ limits.input) × Stopped limits s old (lines_of taken) s' new
-Ended status.TooMuch limits s old taken s' new left = (length taken ≡ limits.input) × Told limits s (whole_lines taken) s' old new
+Ended status.Ok limits s old taken s' new left = IsAtEnd left × (length taken < limits.input) × AllRebuilt s'.table × Told limits s (lines_of taken) s' old new
+Ended status.ReadFault limits s old taken s' new left = (length taken < limits.input) × AllRebuilt s'.table × Told limits s (whole_lines taken) s' old new
+Ended status.WriteFault limits s old taken s' new left = (length taken ≤ limits.input) × (all : List (List ℕ)) × AreLines limits taken left all × Broken limits s old all s' new
+Ended status.DiskFault limits s old taken s' new left = (length taken ≤ limits.input) × (all : List (List ℕ)) × AreLines limits taken left all × Stopped limits s old all s' new
+Ended status.TooMuch limits s old taken s' new left = (length taken ≡ limits.input) × AllRebuilt s'.table × Told limits s (whole_lines taken) s' old new
 Ended status.NoMemory limits s old taken s' new left = ⊥
 Ended (status.Usage u) limits s old taken s' new left = ⊥
 Ended (status.Damaged file entry) limits s old taken s' new left = ⊥
 
 -- The replies that were told in such an end.
 abbrev pub replies_in : (ended : RunStatus) (limits : Limits) (s : Standing) (old : Option (List ℕ)) (taken : List ℕ) (s' : Standing) (new left : Option (List ℕ)) → Ended ended limits s old taken s' new left → List Reply
-replies_in status.Ok limits s old taken s' new left (at_end, within, so) = so.told
-replies_in status.ReadFault limits s old taken s' new left (within, so) = so.told
-replies_in status.WriteFault limits s old taken s' new left (within, (lines, more, split, so)) = so.told
-replies_in status.DiskFault limits s old taken s' new left (within, (lines, more, split, so)) = so.told ++ so.last ∷ []
-replies_in status.TooMuch limits s old taken s' new left (all, so) = so.told
+replies_in status.Ok limits s old taken s' new left (at_end, within, rebuilt, so) = so.told
+replies_in status.ReadFault limits s old taken s' new left (within, rebuilt, so) = so.told
+replies_in status.WriteFault limits s old taken s' new left (within, all, are, (lines, more, split, so)) = so.told ++ so.last ∷ []
+replies_in status.DiskFault limits s old taken s' new left (within, all, are, (lines, more, split, so)) = so.told ++ so.last ∷ []
+replies_in status.TooMuch limits s old taken s' new left (all, rebuilt, so) = so.told
 replies_in status.NoMemory limits s old taken s' new left never = []
 replies_in (status.Usage u) limits s old taken s' new left never = []
 replies_in (status.Damaged file entry) limits s old taken s' new left never = []
@@ -67,6 +72,17 @@ abbrev pub IsQuiet : RunStatus → Type 0
 IsQuiet (status.Damaged file entry) = Unit {0}
 IsQuiet status.NoMemory = Unit {0}
 IsQuiet _ = ⊥
+
+-- What was taken is at most the bound; exactly that with 7; less with 0, which comes at the end of the input, and with 3.
+-- Where nothing was taken, the clock told nothing.
+pub record Took {K : Type 0} (ended : RunStatus) (limits : Limits) (left left' : Option (List ℕ)) (clock clock' : K) : Type 0 where
+  pub taken : List ℕ
+  pub came : Consumes left left' taken
+  pub within : length taken ≤ limits.input
+  pub too_much : ended ≡ status.TooMuch → length taken ≡ limits.input
+  pub ok : ended ≡ status.Ok → IsAtEnd left' × (length taken < limits.input)
+  pub read_fault : ended ≡ status.ReadFault → length taken < limits.input
+  pub untold : taken ≡ [] → clock' ≡ clock
 
 -- Something was taken, and what was put ends with the text of a reply that tells of a fault.
 pub record FaultIsLast (left left' held held' : Option (List ℕ)) : Type 0 where

@@ -6,6 +6,7 @@ use Rattle.txn_base.specs.declared.reply.Reply.{Reply}
 use Rattle.txn_base.specs.declared.reply.Reply.TheVariants as reply
 use Rattle.txn_base.specs.declared.reply.Refusal.TheVariants as no
 use Rattle.txn_model.specs.Replies.{Standing, Kind, Replied, Replies, is_fault}
+use Rattle.txn_model.specs.Table.{TableState, is_fenced}
 use Rattle.txn_wire.specs.Replies.{text_of}
 use Rattle.txn_wire.specs.Short.{is_long}
 use Rattle.txn_run.specs.Kinds.{line_kinds}
@@ -19,6 +20,13 @@ abbrev pub tells_fault : Option Reply → Bool
 tells_fault None = false
 tells_fault (Some r) = is_fault r
 
+-- In this table every part is rebuilt; a part isn't.
+abbrev pub AllRebuilt : TableState → Type 0
+AllRebuilt t = (p : ℕ) → is_fenced t p ≡ false
+
+abbrev pub SomeFenced : TableState → Type 0
+SomeFenced t = (p : ℕ) × (is_fenced t p ≡ true)
+
 -- Something was put, or nothing.
 abbrev pub Grows : Option (List ℕ) → Option (List ℕ) → Type 0
 Grows old new = (bytes : List ℕ) × Appends old new bytes
@@ -30,16 +38,16 @@ pub record EndsWithFault (old new : Option (List ℕ)) : Type 0 where
   pub fault : is_fault last ≡ true
   pub put : Appends old new (before ++ text_of last)
 
--- A line of this kind was told so, and the texts of that were put; or a front of them.
+-- A line of this kind was told so, and the texts of that were put; or it was told one reply, and a front of its text was put.
 abbrev pub ToldLine : Limits → Standing → Kind → Standing → Option (List ℕ) → Option (List ℕ) → Type 0
 ToldLine limits s kind s' old new = (told : List Reply) × Replied limits s kind told s' × Appends old new (texts told)
 
 abbrev pub ToldFront : Limits → Standing → Kind → Standing → Option (List ℕ) → Option (List ℕ) → Type 0
-ToldFront limits s kind s' old new = (told : List Reply) × (count : ℕ) × Replied limits s kind told s' × Appends old new (take count (texts told))
+ToldFront limits s kind s' old new = (one : Reply) × (count : ℕ) × Replied limits s kind (one ∷ []) s' × Appends old new (take count (text_of one))
 
--- A line of this kind was told a fault.
+-- A line of this kind was told a fault, after which a part isn't rebuilt.
 abbrev pub ToldFault : Limits → Standing → Kind → Standing → Option (List ℕ) → Option (List ℕ) → Type 0
-ToldFault limits s kind s' old new = (one : Reply) × Replied limits s kind (one ∷ []) s' × (is_fault one ≡ true) × Appends old new (texts (one ∷ []))
+ToldFault limits s kind s' old new = (one : Reply) × Replied limits s kind (one ∷ []) s' × (is_fault one ≡ true) × SomeFenced s'.table × Appends old new (texts (one ∷ []))
 
 -- From s, these lines were answered and leave s', and the texts of the replies were put.
 pub record Told (limits : Limits) (s : Standing) (lines : List (List ℕ)) (s' : Standing) (old new : Option (List ℕ)) : Type 0 where
@@ -47,26 +55,28 @@ pub record Told (limits : Limits) (s : Standing) (lines : List (List ℕ)) (s' :
   pub replies : Replies limits s (line_kinds limits lines) told s'
   pub put : Appends old new (texts told)
 
--- The same, and the last reply is a fault.
+-- The same, and the last reply is a fault, after which a part isn't rebuilt.
 pub record ToldToFault (limits : Limits) (s : Standing) (lines : List (List ℕ)) (s' : Standing) (old new : Option (List ℕ)) : Type 0 where
   pub told : List Reply
   pub last : Reply
   pub replies : Replies limits s (line_kinds limits lines) (told ++ last ∷ []) s'
   pub fault : is_fault last ≡ true
+  pub fenced : SomeFenced s'.table
   pub put : Appends old new (texts (told ++ last ∷ []))
 
--- The same, but only a front of the texts was put.
+-- The same, but of the text of the last reply only a front was put.
 pub record CutOff (limits : Limits) (s : Standing) (lines : List (List ℕ)) (s' : Standing) (old new : Option (List ℕ)) : Type 0 where
   pub told : List Reply
+  pub last : Reply
   pub count : ℕ
-  pub replies : Replies limits s (line_kinds limits lines) told s'
-  pub put : Appends old new (take count (texts told))
+  pub replies : Replies limits s (line_kinds limits lines) (told ++ last ∷ []) s'
+  pub put : Appends old new (texts told ++ take count (text_of last))
 
--- The first of these lines were answered, and a front of the texts was put.
+-- The first of these lines were answered, and of the text of the last reply only a front was put.
 abbrev pub Broken : Limits → Standing → Option (List ℕ) → List (List ℕ) → Standing → Option (List ℕ) → Type 0
 Broken limits s old all s' new = (lines more : List (List ℕ)) × (all ≡ lines ++ more) × CutOff limits s lines s' old new
 
--- The first of these lines were answered, the last of them by a fault.
+-- The first of these lines were answered, the last of them by a fault, after which a part isn't rebuilt.
 abbrev pub Stopped : Limits → Standing → Option (List ℕ) → List (List ℕ) → Standing → Option (List ℕ) → Type 0
 Stopped limits s old all s' new = (lines more : List (List ℕ)) × (all ≡ lines ++ more) × ToldToFault limits s lines s' old new
 

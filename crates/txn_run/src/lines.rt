@@ -11,6 +11,7 @@ ghost use Rattle.txn_engine.specs.View.{IsWhole, IsTied, IsBacked};
 ghost use Rattle.txn_model.specs.Answers.{reads_clock};
 ghost use Rattle.txn_model.specs.Cut.{is_blank, lines_of};
 ghost use Rattle.txn_model.specs.Replies.{Standing, Replied, TellsFor};
+ghost use Rattle.txn_run.specs.Files.{LeavesOthers};
 ghost use Rattle.txn_run.specs.Going.{standing, Stands, Going, GoesOn, BreaksOff, StopsIn};
 ghost use Rattle.txn_run.specs.Kinds.{is_answered, line_kind};
 ghost use Rattle.txn_run.specs.Told.{tells_fault, Grows, EndsWithFault, ToldLine, ToldFront, ToldFault, Told, Broken, Stopped, MayTell};
@@ -101,6 +102,7 @@ fn reply<D: Disk, K: Clock, L: ledger::Ledger>(
     ensures tied { IsTied engine.old → IsTied engine.new }
     ensures backed { IsBacked (D.image disk.new) engine.new }
     ensures images { Since D.moment D.image D.left_since (KeepsAboveIf (IsTied engine.old) engine.old.names) disk.old disk.new }
+    ensures elsewhere { LeavesOthers D.moment D.image D.left_since D.seen (length engine.old.names) disk.old disk.new }
     ensures cause { CountsWithin (length engine.old.names) (D.faults disk.old) (D.faults disk.new) (D.part_faults disk.old) (D.part_faults disk.new) (tells_fault result ≡ true) }
 {
     if pending.long {
@@ -154,6 +156,7 @@ fn answer_line<D: Disk, O: Sink, K: Clock, L: ledger::Ledger>(
     ensures tied { IsTied engine.old → IsTied engine.new }
     ensures backed { IsBacked (D.image disk.new) engine.new }
     ensures images { Since D.moment D.image D.left_since (KeepsAboveIf (IsTied engine.old) engine.old.names) disk.old disk.new }
+    ensures elsewhere { LeavesOthers D.moment D.image D.left_since D.seen (length engine.old.names) disk.old disk.new }
     ensures beside { O.rest sink.new ≡ O.rest sink.old }
     ensures writes_later { O.faults sink.old ≤ O.faults sink.new }
     ensures writes { result ≡ Err stop.Sink → Rose (O.faults sink.old) (O.faults sink.new) }
@@ -206,6 +209,7 @@ fn take_byte<D: Disk, O: Sink, K: Clock, L: ledger::Ledger>(
     ensures tied { IsTied engine.old → IsTied engine.new }
     ensures backed { IsBacked (D.image disk.new) engine.new }
     ensures images { Since D.moment D.image D.left_since (KeepsAboveIf (IsTied engine.old) engine.old.names) disk.old disk.new }
+    ensures elsewhere { LeavesOthers D.moment D.image D.left_since D.seen (length engine.old.names) disk.old disk.new }
     ensures beside { O.rest sink.new ≡ O.rest sink.old }
     ensures writes_later { O.faults sink.old ≤ O.faults sink.new }
     ensures writes { result ≡ Err stop.Sink → Rose (O.faults sink.old) (O.faults sink.new) }
@@ -257,6 +261,7 @@ pub fn feed<D: Disk, O: Sink, K: Clock, L: ledger::Ledger>(
     ensures tied { IsTied engine.old → IsTied engine.new }
     ensures backed { IsBacked (D.image disk.new) engine.new }
     ensures images { Since D.moment D.image D.left_since (KeepsAboveIf (IsTied engine.old) engine.old.names) disk.old disk.new }
+    ensures elsewhere { LeavesOthers D.moment D.image D.left_since D.seen (length engine.old.names) disk.old disk.new }
     ensures beside { O.rest sink.new ≡ O.rest sink.old }
     ensures writes_later { O.faults sink.old ≤ O.faults sink.new }
     ensures writes { result ≡ Err stop.Sink → Rose (O.faults sink.old) (O.faults sink.new) }
@@ -293,6 +298,7 @@ pub fn finish<D: Disk, O: Sink, K: Clock, L: ledger::Ledger>(
     ensures ok { result ≡ Ok tt → D.tells → IsTied engine.old → (first : Standing) (old : Option (List ℕ)) (fed : List ℕ) → Going limits.now first old fed pending.now (standing engine.old (K.moments clock.old) (D.faults disk.old) (D.part_faults disk.old)) (O.held sink.old) → Told limits.now first (lines_of fed) (standing engine.new (K.moments clock.new) (D.faults disk.new) (D.part_faults disk.new)) old (O.held sink.new) }
     ensures sink { result ≡ Err stop.Sink → D.tells → IsTied engine.old → (first : Standing) (old : Option (List ℕ)) (fed : List ℕ) → Going limits.now first old fed pending.now (standing engine.old (K.moments clock.old) (D.faults disk.old) (D.part_faults disk.old)) (O.held sink.old) → Broken limits.now first old (lines_of fed) (standing engine.new (K.moments clock.new) (D.faults disk.new) (D.part_faults disk.new)) (O.held sink.new) }
     ensures disk { result ≡ Err stop.Disk → D.tells → IsTied engine.old → (first : Standing) (old : Option (List ℕ)) (fed : List ℕ) → Going limits.now first old fed pending.now (standing engine.old (K.moments clock.old) (D.faults disk.old) (D.part_faults disk.old)) (O.held sink.old) → Stopped limits.now first old (lines_of fed) (standing engine.new (K.moments clock.new) (D.faults disk.new) (D.part_faults disk.new)) (O.held sink.new) }
+    ensures whole { OnOk result (IsWhole engine.new) }
     ensures stopped { result ≡ Err stop.Disk → (Stands limits.now.line pending.now [] → ⊥) × EndsWithFault (O.held sink.old) (O.held sink.new) }
     ensures clock { Stands limits.now.line pending.now [] → clock.new ≡ clock.old }
     ensures names { engine.new.names ≡ engine.old.names }
@@ -301,6 +307,7 @@ pub fn finish<D: Disk, O: Sink, K: Clock, L: ledger::Ledger>(
     ensures tied { IsTied engine.old → IsTied engine.new }
     ensures backed { IsBacked (D.image disk.new) engine.new }
     ensures images { Since D.moment D.image D.left_since (KeepsAboveIf (IsTied engine.old) engine.old.names) disk.old disk.new }
+    ensures elsewhere { LeavesOthers D.moment D.image D.left_since D.seen (length engine.old.names) disk.old disk.new }
     ensures beside { O.rest sink.new ≡ O.rest sink.old }
     ensures writes_later { O.faults sink.old ≤ O.faults sink.new }
     ensures writes { result ≡ Err stop.Sink → Rose (O.faults sink.old) (O.faults sink.new) }

@@ -1,7 +1,7 @@
 use Rattle.std.proofs.Common.{◌<◌, length, ◌≡◌, ◌∙◌, ◌+◌, ◌++◌, ◌∷◌, [], ℕ, List, take, drop, get_or, refl, sym, ap, arith, append_assoc, take-append-drop}
 use Rattle.std.proofs.lemmas.List.{take_more, take_all}
 use Rattle.txn_run.proofs.Feeding.{goes_then, goes_breaks, goes_stops, goes_along, breaks_along, stops_along}
-use Rattle.txn_run.proofs.Keeping.{keeps_then, counts_then, counts_none}
+use Rattle.txn_run.proofs.Keeping.{keeps_then, leaves_then, counts_then, counts_none}
 use Rattle.txn_run.proofs.Telling.{grows_then, ends_after}
 use Rattle.txn_run.proofs.lines.feed.Goals as goal
 
@@ -30,6 +30,10 @@ pub returns-in-Err-clause-images : goal.returns-in-Err-clause-images
 returns-in-Err-clause-images g c =
     keeps_then g.D.Disk.moment g.D.Disk.image g.D.Disk.left_since _ _ c.args.engine.now.names c.loop-byte.engine.names c.args.disk.now c.loop-byte.disk c.take_byte.new.disk c.loop-byte.invariant.names c.loop-byte.invariant.tied c.loop-byte.invariant.images c.in-Err.ensures.images
 
+pub returns-in-Err-clause-elsewhere : goal.returns-in-Err-clause-elsewhere
+returns-in-Err-clause-elsewhere g c =
+    leaves_then g.D.Disk.moment g.D.Disk.image g.D.Disk.left_since g.D.Disk.seen c.args.engine.now.names c.loop-byte.engine.names c.args.disk.now c.loop-byte.disk c.take_byte.new.disk c.loop-byte.invariant.names c.loop-byte.invariant.elsewhere c.in-Err.ensures.elsewhere
+
 pub returns-in-Err-clause-cause : goal.returns-in-Err-clause-cause
 returns-in-Err-clause-cause g c =
     counts_then c.args.engine.now.names c.loop-byte.engine.names _ _ _ (g.D.Disk.part_faults c.args.disk.now) (g.D.Disk.part_faults c.loop-byte.disk) (g.D.Disk.part_faults c.take_byte.new.disk) _ _ c.loop-byte.invariant.names c.loop-byte.invariant.counts c.in-Err.ensures.cause
@@ -53,6 +57,7 @@ loop-byte-preserved g c =
       tied = λ t. now.tied (was.tied t);
       backed = now.backed;
       images = keeps_then g.D.Disk.moment g.D.Disk.image g.D.Disk.left_since _ _ c.args.engine.now.names c.loop-byte.engine.names c.args.disk.now c.loop-byte.disk c.take_byte.new.disk was.names was.tied was.images now.images;
+      elsewhere = leaves_then g.D.Disk.moment g.D.Disk.image g.D.Disk.left_since g.D.Disk.seen c.args.engine.now.names c.loop-byte.engine.names c.args.disk.now c.loop-byte.disk c.take_byte.new.disk was.names was.elsewhere now.elsewhere;
       counts = counts_none _ _ _ (g.D.Disk.part_faults c.args.disk.now) (g.D.Disk.part_faults c.take_byte.new.disk) _ (counts_then c.args.engine.now.names c.loop-byte.engine.names _ _ _ (g.D.Disk.part_faults c.args.disk.now) (g.D.Disk.part_faults c.loop-byte.disk) (g.D.Disk.part_faults c.take_byte.new.disk) _ _ was.names was.counts now.cause);
       so = λ told tied. goes_along c.args.limits.now _ (take (i + 1) bs) _ _ _ _ _ _ (sym (more bs i c.loop-byte-test.true)) (goes_then c.args.limits.now (take i bs) (get_or bs i 0 ∷ []) _ _ _ _ _ _ _ _ _ (was.so told tied) (now.ok refl told (was.tied tied)));
     }

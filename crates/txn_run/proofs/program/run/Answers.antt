@@ -4,6 +4,7 @@ use Rattle.txn_engine.specs.Above.{StandsAbove, KeepsAbove}
 use Rattle.txn_engine.specs.Opening.{AreParts, IsPartFile, IsFirstDamage}
 use Rattle.txn_base.specs.Disk.{Since}
 use Rattle.txn_base.proofs.Moments.{at_any_moment}
+use Rattle.txn_run.specs.Files.{LeavesOthers}
 use Rattle.txn_run.specs.Run.{RunOf}
 use Rattle.txn_run.specs.Words.{command_of}
 use Rattle.txn_run.proofs.Promised.{keeps_promises}
@@ -32,6 +33,11 @@ pub returns-in-Ok-clause-stopped : goal.returns-in-Ok-clause-stopped
 returns-in-Ok-clause-stopped g c is =
     let one : length c.in-Ok.names.items ≡ 1 = ap length c.in-Ok.ensures.words.1 in
     ⊎_elim (λ still. inl still) (λ last. inr (last.0, λ told. subst (λ (n : ℕ). AreParts n (g.D.Disk.seen c.args.disk.now)) one (last.1 told))) (c.with_count.ensures.stopped is)
+
+pub returns-in-Ok-clause-elsewhere : goal.returns-in-Ok-clause-elsewhere
+returns-in-Ok-clause-elsewhere g c =
+    let one : length c.in-Ok.names.items ≡ 1 = ap length c.in-Ok.ensures.words.1 in
+    subst (λ (n : ℕ). LeavesOthers g.D.Disk.moment g.D.Disk.image g.D.Disk.left_since g.D.Disk.seen n c.args.disk.now c.with_count.new.disk) one c.with_count.ensures.elsewhere
 
 pub returns-in-Ok-clause-always : goal.returns-in-Ok-clause-always
 returns-in-Ok-clause-always g c name command floor before image left =

@@ -4,7 +4,7 @@ use Rattle.txn_model.specs.Replies.{Standing}
 use Rattle.txn_run.specs.Going.{standing}
 use Rattle.txn_run.specs.Run.{Ended, IsEarly, IsAnswered, first_standing}
 use Rattle.txn_run.proofs.Counted.{counted_since}
-use Rattle.txn_run.proofs.Keeping.{counts_then, counts_but}
+use Rattle.txn_run.proofs.Keeping.{leaves_then, counts_then, counts_but}
 use Rattle.txn_run.proofs.Running.{opening_above, running_above, image_above, first_is, leaves_here, early_here, damage_of, fault_of, not_answered}
 use Rattle.txn_run.proofs.Undamaged.{sound_not_damaged}
 use Rattle.txn_run.proofs.program.run_over.Goals as goal
@@ -54,6 +54,11 @@ pub returns-in-Ok-open_disk-clause-disk : goal.returns-in-Ok-open_disk-clause-di
 returns-in-Ok-open_disk-clause-disk g c =
     counts_then c.args.names.items c.in-Ok-open_disk.engine.names _ _ _ (g.D.Disk.part_faults c.args.disk.now) (g.D.Disk.part_faults c.open_disk.new.disk) (g.D.Disk.part_faults c.run_in.new.disk) _ _ c.in-Ok-open_disk.ensures.opened.0 c.in-Ok-open_disk.ensures.cause c.run_in.ensures.cause
 
+pub returns-in-Ok-open_disk-clause-elsewhere : goal.returns-in-Ok-open_disk-clause-elsewhere
+returns-in-Ok-open_disk-clause-elsewhere g c =
+    leaves_then g.D.Disk.moment g.D.Disk.image g.D.Disk.left_since g.D.Disk.seen c.args.names.items c.in-Ok-open_disk.engine.names c.args.disk.now c.open_disk.new.disk c.run_in.new.disk c.in-Ok-open_disk.ensures.opened.0
+    (record { now = c.in-Ok-open_disk.ensures.others; since = c.in-Ok-open_disk.ensures.elsewhere }) c.run_in.ensures.elsewhere
+
 pub returns-in-Err-clause-images : goal.returns-in-Err-clause-images
 returns-in-Err-clause-images g c = opening_above g.D.Disk.moment g.D.Disk.image g.D.Disk.left_since c.args.names.items c.args.disk.now c.open_disk.new.disk c.in-Err.ensures.images
 
@@ -74,7 +79,7 @@ returns-in-Err-clause-answers g c told sound =
     })
 
 pub returns-in-Err-clause-stopped : goal.returns-in-Err-clause-stopped
-returns-in-Err-clause-stopped g c is = inl (refl, refl, refl)
+returns-in-Err-clause-stopped g c is = inl (refl, refl, refl, c.in-Err.ensures.lists)
 
 pub returns-in-Err-clause-disk : goal.returns-in-Err-clause-disk
 returns-in-Err-clause-disk g c =
