@@ -59,7 +59,7 @@ pub fn with_step(most: u64) -> Limits
     limits
 }
 
-/// So many transactions may be under way.
+/// So many numbers of transactions may be given from the opening's low watermark on.
 pub fn with_window(most: u64) -> Limits
     requires most { 1 ≤ most }
     requires most_most { most ≤ 65536 }

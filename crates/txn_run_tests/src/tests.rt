@@ -1,14 +1,10 @@
 //! Tests, by theme. What they expect was worked out by hand from the rules.
 mod bounds;
-mod crashes;
-mod damage;
-mod faults;
 mod limits;
 mod lines;
 mod odd_json;
 mod plain;
 mod refusals;
-mod statuses;
 
 pub const PUBLISH_A: &str = r#"{"do":"publish","topic":"orders","data":"a"}
 "#;

@@ -5,7 +5,7 @@ use super::READ;
 use crate::{Ran, run_lines};
 use std::alloc::{AllocError, Global};
 use txn_base::Limits;
-use txn_fixtures::{TOPIC, with_log, with_message};
+use txn_fixtures::{TOPIC, with_log, with_message, with_window};
 use txn_memdisk::MemDisk;
 
 /// A run over an empty disk.
@@ -27,6 +27,18 @@ const MESSAGES: (&str, &str) = (
 {"no":"too_big"}
 {"name":"x","no":"unknown_part"}
 {"at":0,"count":1,"ok":"publish"}
+"#,
+);
+
+// At most two transactions.
+const TRANSACTIONS: (&str, &str) = (
+    r#"{"do":"new","timeout":60000}
+{"do":"new","timeout":60000}
+{"do":"new","timeout":60000}
+"#,
+    r#"{"ok":"new","txn":[0,0]}
+{"ok":"new","txn":[0,1]}
+{"count":2,"no":"full","what":"transactions"}
 "#,
 );
 
@@ -57,6 +69,8 @@ fn limits_are_exact(rt: HostRuntime) -> Result<(), AllocError> {
     let standard = Limits::standard();
     let (input, put) = MESSAGES;
     assert_eq!(rt; told(alloc, &with_message(3), input)?.shown(), ("Ok", put));
+    let (input, put) = TRANSACTIONS;
+    assert_eq!(rt; told(alloc, &with_window(2), input)?.shown(), ("Ok", put));
     let (input, put) = RECORDS;
     assert_eq!(rt; told(alloc, &with_log(2), input)?.shown(), ("Ok", put));
     let (input, put) = LAST;

@@ -3,7 +3,7 @@ use super::{PUBLISH_A, PUBLISH_AND_READ, READ};
 use crate::run_lines;
 use std::alloc::AllocError;
 use txn_base::Limits;
-use txn_fixtures::{A, TOPIC, disk_with};
+use txn_fixtures::{A, LOG, TOPIC, disk_with};
 use txn_memdisk::{FaultAt, MemDisk, Op};
 
 #[test]
@@ -23,19 +23,21 @@ fn plain_publish_is_read_back(rt: HostRuntime) -> Result<(), AllocError> {
     Ok(())
 }
 
-// A resize or a write would fail, and be told.
+// A resize or a write of the topic's ledger or of the coordinator's log would fail, and be told.
 #[test]
 fn empty_input_changes_no_file(rt: HostRuntime) -> Result<(), AllocError> {
-    let fault = |op| FaultAt {
-        file: TOPIC,
-        op,
-        nth: 1,
-    };
-    let faults = [fault(Op::Resize), fault(Op::WriteAt)];
+    let fault = |file, op| FaultAt { file, op, nth: 1 };
+    let faults = [
+        fault(TOPIC, Op::Resize),
+        fault(TOPIC, Op::WriteAt),
+        fault(LOG, Op::Resize),
+        fault(LOG, Op::WriteAt),
+    ];
     let mut disk = disk_with(rt.alloc(), A, &faults)?;
     let ran = run_lines(rt.alloc(), &Limits::standard(), &mut disk, "")?;
     assert_eq!(rt; ran.shown(), ("Ok", ""));
     assert_eq!(rt; disk.file_bytes(TOPIC), A);
+    assert!(rt; disk.file_bytes(LOG).is_empty());
     Ok(())
 }
 

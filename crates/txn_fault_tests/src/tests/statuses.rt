@@ -1,10 +1,10 @@
 //! How a run ends, and why.
 use super::{PUBLISH_AND_READ, READ};
-use crate::{Ran, run_lines, run_over, run_words};
 use std::alloc::{AllocError, Global};
 use txn_base::{Bytes, Limits};
 use txn_fixtures::{A, TOPIC, disk_with, with_input};
 use txn_memdisk::{FaultAt, MemDisk, MemSink, MemSource, Op};
+use txn_run_tests::{Ran, run_lines, run_over, run_words};
 
 const PUBLISHED: &str = "{\"at\":0,\"count\":1,\"ok\":\"publish\"}\n";
 

@@ -1,10 +1,10 @@
 //! Files that no crash leaves, and files that one may leave.
 use super::{PUBLISH_AND_READ, READ};
-use crate::{Ran, run_lines};
 use std::alloc::{AllocError, Global};
 use txn_base::Limits;
 use txn_fixtures::{A, TOPIC, disk_with};
 use txn_memdisk::MemDisk;
+use txn_run_tests::{Ran, run_lines};
 
 const READ_A: &str = "{\"limit\":1,\"messages\":[[0,\"a\"]],\"ok\":\"read\"}\n";
 

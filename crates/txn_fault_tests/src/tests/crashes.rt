@@ -1,10 +1,10 @@
 //! Stops of the machine inside and after an append.
 use super::{PUBLISH_A, READ};
-use crate::{Ran, run_lines};
 use std::alloc::{AllocError, Global};
 use txn_base::Limits;
 use txn_fixtures::{A, TOPIC, disk_with};
 use txn_memdisk::{Choice, FaultAt, MemDisk, Op};
+use txn_run_tests::{Ran, run_lines};
 
 const NOTHING: &str = "{\"limit\":0,\"messages\":[],\"ok\":\"read\"}\n";
 

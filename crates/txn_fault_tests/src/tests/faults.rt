@@ -1,10 +1,10 @@
 //! Calls of the disk that fail once.
 use super::{PUBLISH_AND_READ, READ};
-use crate::{Ran, run_lines};
 use std::alloc::{AllocError, Global};
 use txn_base::Limits;
 use txn_fixtures::{A, TOPIC, disk_with};
 use txn_memdisk::{Choice, FaultAt, MemDisk, Op};
+use txn_run_tests::{Ran, run_lines};
 
 fn fault(op: Op, nth: u64) -> FaultAt {
     FaultAt {
