@@ -16,13 +16,14 @@ pub enum Standing {
     Lost,
 }
 
-/// Opens a folder and locks it. `Missing` where there is none. The names in it are brought to the disk: a program that was
-/// stopped before it had done so may have made a file there.
+/// Opens a folder and locks it. `Missing` where there is none. Its own name and the names in it are brought to the disk: a
+/// program that was stopped before it had done so may have made the folder, or a file there.
 pub fn held<R: Files<File = File>>(files: &R, path: &str) -> io::Result<Standing> {
     match File::open(files, path) {
         Ok(folder) => match folder.try_lock() {
             Ok(()) => {
                 folder.sync_all()?;
+                File::open(files, parent_of(path))?.sync_all()?;
                 Ok(Standing::Held(folder))
             }
             Err(TryLockError::WouldBlock) => Err(ErrorKind::WouldBlock.into()),
@@ -33,11 +34,10 @@ pub fn held<R: Files<File = File>>(files: &R, path: &str) -> io::Result<Standing
     }
 }
 
-/// Makes a folder that was missing, brings its name to the disk, and locks it. One that is there by now was made by
+/// Makes a folder that was missing, locks it, and brings its name to the disk. One that is there by now was made by
 /// another program since, whose files were taken for empty: that is an error.
 pub fn made<R: Files<File = File>>(files: &R, path: &str) -> io::Result<Standing> {
     fs::create_dir(files, path)?;
-    File::open(files, parent_of(path))?.sync_all()?;
     match held(files, path)? {
         Standing::Held(folder) => Ok(Standing::Held(folder)),
         _ => Err(ErrorKind::NotFound.into()),
