@@ -2,9 +2,11 @@
 """Kills the program by signal 9 inside commits and aborts on one folder, restarts it, and looks at every transaction: its
 messages are all visible or none, as its status says; and what was told before the kill still stands, in what the program
 answers and in the bytes of the ledger. The same end, asked again, then drives a transaction that is stuck, and one that is
-still open is ended. This is no test of a power cut: the system keeps what was written.
+still open is ended. It goes on past its rounds until a kill fell between a decision and its close. This is no test of a power
+cut: the system keeps what was written.
 Usage: kill_commits.py [PROGRAM [ROUNDS [SEED]]]   (PROGRAM as `rt run` left it, unless another is named)"""
 import collections
+import itertools
 import random
 import statistics
 import sys
@@ -142,7 +144,11 @@ def main():
     found, length = collections.Counter(), 0
     with tempfile.TemporaryDirectory() as top:
         client = Client(f"{top}/data")
-        for _ in range(ROUNDS):
+        for number in itertools.count(1):
+            between = any(status in DECIDED.values() for status, _ in found)
+            if number > ROUNDS and between:
+                break
+            assert number <= 20 * ROUNDS, "no kill fell between a decision and its close"
             before = length
             transaction, how = client.until_killed()
             program = start(client.folder)
@@ -159,7 +165,6 @@ def main():
     for (status, is_there), count in sorted(found.items(), key=str):
         messages = {True: "with its messages there", False: "with its messages hidden", None: "without messages"}[is_there]
         print(f"kill_commits: {count} times the transaction was then {status}, {messages}", flush=True)
-    assert any(status in DECIDED.values() for status, _ in found), "no kill fell between a decision and its close"
 
 
 main()
