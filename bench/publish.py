@@ -6,20 +6,19 @@ Usage: publish.py [PROGRAM [FOLDER]]   (PROGRAM as `rt run` left it, unless anot
 import time
 
 from behind_pipes import PROGRAM, ask, by_turns, compiled, ended, folder, start
+from story import MESSAGE, data_of
 
-LINES, ROUNDS, SIZE = 100, 50, 100
+LINES, ROUNDS = 100, 50
 PUBLISHED, FLOOR = b'"ok":"publish"}\n', b'{"ok":"floor"}\n'
 
 
 def line_of(messages):
-    data = [b'"' + b"x" * SIZE + b'"'] * messages
-    text = data[0] if messages == 1 else b"[" + b",".join(data) + b"]"
-    return b'{"do":"publish","topic":"orders","data":' + text + b"}\n"
+    return f'{{"do":"publish","topic":"orders","data":{data_of(messages)}}}\n'.encode()
 
 
 def frame_size(messages):
     """A head of 5 bytes, and for each record a length of 2 bytes, and a version and a kind."""
-    return 5 + messages * (2 + 2 + SIZE)
+    return 5 + messages * (2 + 2 + MESSAGE)
 
 
 def seconds(command, line, told):

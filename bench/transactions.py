@@ -1,8 +1,9 @@
 #!/usr/bin/env python3
-"""Transactions by one client that waits for each reply through a pipe, `new`, `add`, publishes of a 100-byte message each, and
-`commit`, against a floor that makes the same appends in the same files and looks at nothing in the lines. One publish a
-transaction, fifty rounds of 100 transactions each, and 64 publishes, fifty rounds of 10; the two by turns, and the median of
-the rounds' ratios. Each reply is compared with the one that must come.
+"""Transactions by one client that waits for each reply through a pipe, `new`, `add`, publishes of 100-byte messages, and
+`commit`, against a floor that makes the same appends in the same files and looks at nothing in the lines. One publish of one
+message a transaction, fifty rounds of 100 transactions each; 64 publishes of one message, fifty rounds of 10; and one publish
+of 64 messages, fifty rounds of 100; program and floor by turns, and the median of the rounds' ratios. Each reply is compared
+with the one that must come.
 Usage: transactions.py [PROGRAM [FOLDER]]   (PROGRAM as `rt run` left it, unless another is named; the disk of FOLDER is measured)"""
 import subprocess
 import time
@@ -10,15 +11,17 @@ import time
 from behind_pipes import LEDGER, LOG, PROGRAM, ask, by_turns, compiled, ended, folder
 from story import appends_of, lines_of, replies_of
 
-ROUNDS, ROWS = 50, ((1, 100), (64, 10))
+# Publishes a transaction, messages a publish, and transactions a round.
+ROUNDS, ROWS = 50, ((1, 1, 100), (64, 1, 10), (1, 64, 100))
 FLOOR = b'{"ok":"floor"}\n'
 
 
-def exchanges(count, publishes, floor):
-    """The lines of so many transactions, each with the reply that must come."""
+def exchanges(count, publishes, messages, floor):
+    """The lines of so many transactions, each with the reply that must come. A transaction takes a place for each of its
+    messages, and one for its marker."""
     for number in range(count):
-        lines = lines_of(number, publishes)
-        replies = [FLOOR] * len(lines) if floor else replies_of(number, publishes, number * (publishes + 1))
+        lines = lines_of(number, publishes, messages)
+        replies = [FLOOR] * len(lines) if floor else replies_of(number, publishes, number * (publishes * messages + 1), messages)
         yield from zip(lines, replies)
 
 
@@ -28,9 +31,9 @@ def tell(program, story):
         assert reply == wanted, f"{line!r} is told {reply!r} and not {wanted!r}"
 
 
-def seconds(command, count, publishes, floor):
+def seconds(command, count, publishes, messages, floor):
     """How long the transactions take behind a first one."""
-    story = list(exchanges(count + 1, publishes, floor))
+    story = list(exchanges(count + 1, publishes, messages, floor))
     program = subprocess.Popen(command, stdin=subprocess.PIPE, stdout=subprocess.PIPE, bufsize=0)
     first = publishes + 3
     tell(program, story[:first])
@@ -41,24 +44,24 @@ def seconds(command, count, publishes, floor):
     return end - begin
 
 
-def row(top, floor, publishes, count):
-    appends = appends_of(publishes)
+def row(top, floor, publishes, messages, count):
+    appends, name = appends_of(publishes, messages), f"{publishes}-{messages}"
 
     def ours(k):
-        return seconds([PROGRAM, f"{top}/data-{publishes}-{k}", "lines", "orders"], count, publishes, False)
+        return seconds([PROGRAM, f"{top}/data-{name}-{k}", "lines", "orders"], count, publishes, messages, False)
 
     def theirs(k):
-        files = [f"{top}/{name}-{publishes}-{k}" for name in (LOG, LEDGER)]
-        return seconds([floor, *files, *appends], count, publishes, True)
+        files = [f"{top}/{file}-{name}-{k}" for file in (LOG, LEDGER)]
+        return seconds([floor, *files, *appends], count, publishes, messages, True)
 
-    by_turns(f"{publishes} publishes a transaction", "transactions", ROUNDS, count, ours, theirs)
+    by_turns(f"publishes: {publishes}, messages each: {messages}", "transactions", ROUNDS, count, ours, theirs)
 
 
 def main():
     with folder() as top:
         floor = compiled("floor", top)
-        for publishes, count in ROWS:
-            row(top, floor, publishes, count)
+        for publishes, messages, count in ROWS:
+            row(top, floor, publishes, messages, count)
 
 
 main()
