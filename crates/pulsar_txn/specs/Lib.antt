@@ -1,4 +1,3 @@
 pub mod Counts
 pub mod CommandLine
-pub mod Ending
-pub mod FileName
+pub mod Paths

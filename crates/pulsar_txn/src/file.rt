@@ -1,8 +1,7 @@
 //! The real files of a disk. They stay open.
 ghost use Rattle.std.specs.Prelude.{◌≡◌, IfOk, string_bytes};
-ghost use Rattle.pulsar_txn.specs.FileName.{path_of};
+ghost use Rattle.pulsar_txn.specs.Paths.{path_of};
 
-use crate::file_name::FileName;
 use std::alloc::{AllocError, Global};
 use std::fs::{File, Files, OpenOptions};
 use std::io;

@@ -10,9 +10,7 @@ mod clock;
 mod command_line;
 mod counts;
 mod disk;
-mod ending;
 mod file;
-mod file_name;
 mod files;
 mod folder;
 mod streams;
@@ -20,20 +18,18 @@ mod streams;
 use crate::clock::SystemClock;
 use crate::command_line::{split, words_of};
 use crate::disk::FolderDisk;
-use crate::ending::Ending;
 use crate::streams::{Input, Output};
 use std::process::ExitCode;
 use txn_base::{Limits, Text, Usage};
 use txn_run::{RunStatus, run};
 
 fn main(rt: HostRuntime) -> ExitCode {
-    let ended = match words_of(rt) {
+    let status = match words_of(rt) {
         Ok(words) => answer(rt, &words),
         Err(status) => status,
     };
-    let ending = Ending(ended);
-    let _ = eprint!(rt; "{ending}");
-    ExitCode::from(ending.number())
+    let _ = eprint!(rt; "{status}");
+    ExitCode::from(status.number())
 }
 
 /// Does what the words ask for, over the files of the folder among them, and standard input and output.

@@ -3,6 +3,7 @@ pub mod Content
 pub mod Decoded
 pub mod Disk
 pub mod Entries
+pub mod FileName
 pub mod Frames
 pub mod Limits
 pub mod Names

@@ -21,6 +21,10 @@ nothing = record { seen = []; sure = []; pending = [] }
 abbrev pub entry_of : MemFile → Entry
 entry_of file = record { seen = file.bytes.items; sure = undone file.pending.items file.bytes.items; pending = changes_of file.pending.items }
 
+-- the name of a file
+abbrev pub name_of : MemFile → FileId
+name_of file = file.id
+
 -- Of these, the entry of a file.
 abbrev pub entry_in : List MemFile → FileId → Entry
 entry_in [] id = nothing

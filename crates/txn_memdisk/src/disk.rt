@@ -11,6 +11,8 @@ ghost use Rattle.txn_memdisk.specs.Past.{only_last};
 ghost use Rattle.txn_memdisk.specs.Mixed.{mixed_image};
 ghost use Rattle.txn_memdisk.specs.Disk.{seen_of, image_of, moment_of, left_of, faults_of, part_faults_of, entries_of, waits_of, SameEntries, HasEntry, IsCounted};
 
+mod told;
+
 use crate::counts::Counts;
 use crate::crash::{Choice, all_left};
 use crate::fault::{FaultAt, Op, fires_at};

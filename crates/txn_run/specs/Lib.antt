@@ -1,4 +1,5 @@
 pub mod Before
+pub mod Ending
 pub mod Files
 pub mod Going
 pub mod Kinds

@@ -1,6 +1,7 @@
 //! Lines in, replies out, over the files of a disk.
 #![tactic(auto)]
 
+mod ending;
 mod lines;
 mod pending;
 mod program;

@@ -1,22 +1,18 @@
-//! How the program ends: its status, and the line that it says.
+//! What the program tells of how a run ended: its status, and the line beside it.
 ghost use Rattle.std.specs.Prelude.{◌≡◌, Some};
-ghost use Rattle.pulsar_txn.specs.Ending.{number_of, line_of};
+ghost use Rattle.txn_run.specs.Ending.{number_of, line_of};
 
-use crate::file_name::FileName;
+use crate::status::RunStatus;
 use std::fmt;
 use std::fmt::{Display, Formatter};
-use txn_run::RunStatus;
+use txn_base::FileName;
 
-/// How a run ended. Its text is the line on standard error, which is empty where nothing is to be said.
-#[derive(Drop)]
-pub struct Ending(pub RunStatus);
-
-impl Ending {
+impl RunStatus {
     /// The program's status.
     pub fn number(&self) -> u8
-        ensures { result ≡ number_of self.now.0 }
+        ensures { result ≡ number_of self.now }
     {
-        match &self.0 {
+        match self {
             RunStatus::Ok => 0,
             RunStatus::Usage(_) => 1,
             RunStatus::Damaged { file: _, entry: _ } => 2,
@@ -29,11 +25,12 @@ impl Ending {
     }
 }
 
-impl Display for Ending {
-    ghost output = { λ ending. Some (line_of ending.0) };
+/// The line on standard error, with its newline; nothing where all went well.
+impl Display for RunStatus {
+    ghost output = { λ status. Some (line_of status) };
 
     fn fmt<W: fmt::Write>(&self, f: &mut Formatter<W>) -> fmt::Result {
-        match &self.0 {
+        match self {
             RunStatus::Ok => Ok(()),
             RunStatus::Usage(_) => f.write_str("usage\n"),
             RunStatus::Damaged { file, entry } => write!(

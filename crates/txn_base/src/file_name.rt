@@ -1,10 +1,10 @@
 //! How the files of a disk are named in its folder.
 ghost use Rattle.std.specs.Prelude.{Some};
-ghost use Rattle.pulsar_txn.specs.FileName.{file_name};
+ghost use Rattle.txn_base.specs.FileName.{file_name};
 
+use crate::file_id::FileId;
 use std::fmt;
 use std::fmt::{Display, Formatter};
-use txn_base::FileId;
 
 /// The name of a file in its folder: `p01-r0000000002` is row 2 of part 1.
 #[derive(Clone, Copy)]

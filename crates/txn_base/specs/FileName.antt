@@ -10,7 +10,3 @@ with_zeros width n = padded_integral (format_spec 32 0 4 width (2 ^ 64 - 1)) fal
 -- p and the part in two digits, - and r and the row in ten
 abbrev pub file_name : FileId → List ℕ
 file_name file = codes "p" ++ with_zeros 2 file.part ++ codes "-r" ++ with_zeros 10 file.row
-
--- A file's path: the folder's, / and its name.
-abbrev pub path_of : List ℕ → FileId → List ℕ
-path_of folder file = folder ++ codes "/" ++ file_name file

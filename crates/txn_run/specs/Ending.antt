@@ -1,7 +1,7 @@
 -- How the program ends.
 use Rattle.std.specs.Prelude.{ℕ, List, [], ◌++◌, codes}
 use Rattle.std.specs.Fmt.{decimal}
-use Rattle.pulsar_txn.specs.FileName.{file_name}
+use Rattle.txn_base.specs.FileName.{file_name}
 use Rattle.txn_run.specs.declared.status.RunStatus.{RunStatus}
 use Rattle.txn_run.specs.declared.status.RunStatus.TheVariants as status
 

@@ -1,0 +1,181 @@
+//! Each call of a run fails in turn, and then the machine stops.
+use crate::compare::{first_other, lines_in};
+use crate::names::{CHOICES, LOG, TOPIC};
+use crate::script::{Came, Script};
+use crate::text::told;
+use crate::wrong::Wrong;
+use std::alloc::{AllocError, Global};
+use txn_base::{FileId, Limits};
+use txn_memdisk::{Choice, FaultAt, MemDisk, Op};
+
+/// A run that was told, and the disk on which it began.
+#[derive(Drop)]
+pub struct Past {
+    pub script: Script,
+    pub limits: Limits,
+    pub before: MemDisk,
+}
+
+/// What a look at the disk may put where the run was at a line, besides what it puts after whole lines.
+#[derive(Debug, Drop)]
+pub struct Also {
+    pub line: usize,
+    pub put: Vec<u8>,
+}
+
+/// What a look at the disk may put after a run: where the lines that were answered have been done, or also the line at which
+/// the call failed, of this number.
+#[derive(Debug, Drop)]
+struct Allowed {
+    line: usize,
+    without: Vec<u8>,
+    with: Vec<u8>,
+}
+
+const OPS: [Op; 5] = [Op::Size, Op::Read, Op::WriteAt, Op::Resize, Op::Sync];
+
+/// Each call of the run fails once, and the machine stops behind it: what was answered stands. How many calls there were.
+pub fn sweep(alloc: Global, past: &Past, look: &Script, also: &[Also]) -> Result<u64, Wrong> {
+    let mut disk = past.before.crash(Choice::New)?;
+    let whole = past.run(alloc, &past.script.lines, &mut disk)?;
+    let mut count = 0u64;
+    for file in &files_of(&disk)? {
+        for op in &OPS {
+            for nth in 1..u64::MAX {
+                let fault = FaultAt {
+                    file: *file,
+                    op: *op,
+                    nth,
+                };
+                if !fails_once(alloc, past, &whole, look, also, fault)? {
+                    break;
+                }
+                count = count.saturating_add(1);
+            }
+        }
+    }
+    Ok(count)
+}
+
+/// The files of a disk, the log and the first topic's ledger among them though nothing was ever written there.
+fn files_of(disk: &MemDisk) -> Result<Vec<FileId>, AllocError> {
+    let mut files = disk.files()?;
+    for file in [LOG, TOPIC] {
+        if !files.contains(&file) {
+            files.push(file)?;
+        }
+    }
+    Ok(files)
+}
+
+impl Past {
+    /// Runs it once more, with these lines on this disk.
+    fn run(&self, alloc: Global, lines: &[Vec<u8>], disk: &mut MemDisk) -> Result<Came, Wrong> {
+        self.script.run(alloc, &self.limits, lines, disk)
+    }
+}
+
+/// What a look puts behind these lines, where no call fails.
+pub fn seen_after(
+    alloc: Global,
+    past: &Past,
+    look: &Script,
+    lines: &[Vec<u8>],
+) -> Result<Vec<u8>, Wrong> {
+    let mut disk = past.before.crash(Choice::New)?;
+    let _ = past.run(alloc, lines, &mut disk)?;
+    let came = look.run(alloc, &past.limits, &look.lines, &mut disk)?;
+    came.put.to_vec(alloc).map_err(|_| Wrong::NoMemory)
+}
+
+/// One call fails. Whether the run came to it.
+fn fails_once(
+    alloc: Global,
+    past: &Past,
+    whole: &Came,
+    look: &Script,
+    also: &[Also],
+    fault: FaultAt,
+) -> Result<bool, Wrong> {
+    let mut disk = past.before.crash(Choice::New)?;
+    disk.fail(&[fault])?;
+    let came = past.run(alloc, &past.script.lines, &mut disk)?;
+    if disk.failed_calls() == 0 {
+        return Ok(false);
+    }
+    let allowed = allowed_after(alloc, past, whole, look, &came)?;
+    for choice in &CHOICES {
+        let mut left = disk.crash(*choice)?;
+        let seen = look.run(alloc, &past.limits, &look.lines, &mut left)?;
+        if seen.ending.as_str() != "0" || !allows(&allowed, also, &seen.put) {
+            let file = fault.file.part;
+            let op = fault.op;
+            let nth = fault.nth;
+            return Err(Wrong::Came {
+                what: format!(in alloc; "fault part {file} {op:?} {nth}, crash {choice:?}")?,
+                want: told(alloc, &allowed.without)?,
+                came: told(alloc, &seen.put)?,
+            });
+        }
+    }
+    Ok(true)
+}
+
+fn allows(allowed: &Allowed, also: &[Also], put: &Vec<u8>) -> bool {
+    *put == allowed.without
+        || *put == allowed.with
+        || also
+            .iter()
+            .any(|one| one.line == allowed.line && *put == one.put)
+}
+
+/// What may be seen behind a run in which a call failed.
+fn allowed_after(
+    alloc: Global,
+    past: &Past,
+    whole: &Came,
+    look: &Script,
+    came: &Came,
+) -> Result<Allowed, Wrong> {
+    let replies = lines_in(alloc, &came.put)?;
+    let wholes = lines_in(alloc, &whole.put)?;
+    let at = first_other(&replies, &wholes);
+    let goes_on = came.ending.as_str() == "0";
+    let is_told = if goes_on {
+        replies.get(at.saturating_add(1)..) == wholes.get(at.saturating_add(1)..)
+    } else {
+        came.ending.as_str() == "5 disk fault" && replies.len() <= at.saturating_add(1)
+    };
+    if !is_told {
+        return Err(Wrong::Came {
+            what: String::from_str(alloc, "a call failed")?,
+            want: told(alloc, &whole.put)?,
+            came: told(alloc, &came.put)?,
+        });
+    }
+    let lines = &past.script.lines;
+    let without = picked(alloc, lines, at, goes_on, false)?;
+    let with = picked(alloc, lines, at, goes_on, !replies.is_empty())?;
+    Ok(Allowed {
+        line: at.saturating_add(1),
+        without: seen_after(alloc, past, look, &without)?,
+        with: seen_after(alloc, past, look, &with)?,
+    })
+}
+
+/// The lines before a place, that there where it is to be had, and those behind it where the run goes on.
+fn picked(
+    alloc: Global,
+    lines: &[Vec<u8>],
+    at: usize,
+    goes_on: bool,
+    has_it: bool,
+) -> Result<Vec<Vec<u8>>, AllocError> {
+    let mut all = Vec::new(alloc);
+    for (i, line) in lines.iter().enumerate() {
+        if i < at || (i == at && has_it) || (i > at && goes_on) {
+            all.push(line.clone()?)?;
+        }
+    }
+    Ok(all)
+}

@@ -1,0 +1,374 @@
+//! The lines of a story, one after the other.
+use crate::bounds::lower;
+use crate::compare::{hex_of, same_bytes, same_lines, same_text};
+use crate::frames::file_bytes;
+use crate::names::{choices_of, file_of, op_of};
+use crate::page::Page;
+use crate::script::{Came, Script};
+use crate::sweep::{Also, Past, seen_after, sweep};
+use crate::text::{first_word, number, put_text, words_of};
+use crate::world::World;
+use crate::wrong::Wrong;
+use std::alloc::{AllocError, Global};
+use std::mem;
+use txn_base::{FileId, Limits, Text};
+use txn_memdisk::FaultAt;
+
+/// What the lines that come belong to.
+#[derive(Clone, Copy, Debug)]
+enum Asked {
+    Nothing,
+    /// A run.
+    Run,
+    /// A look at the disk, behind the last run with each call failing in turn.
+    EachFault,
+}
+
+/// How far a story is told.
+#[derive(Drop)]
+pub struct Teller {
+    alloc: Global,
+    /// How many calls have failed in turn.
+    pub failed: u64,
+    /// The story with what came, where it is to be shown and not compared.
+    pub page: Option<Page>,
+    limits: Limits,
+    world: World,
+    asked: Asked,
+    /// The run that is asked for, or the next one.
+    script: Script,
+    /// What it is to put, and how it is to end.
+    want: Vec<u8>,
+    ending: String,
+    why: String,
+    /// What else may be put, where a call failed.
+    also: Vec<Also>,
+    /// The last run.
+    past: Option<Past>,
+}
+
+impl Teller {
+    /// Before the first line of a story.
+    pub fn new(alloc: Global, is_shown: bool) -> Result<Teller, AllocError> {
+        let page = if is_shown {
+            Some(Page::new(alloc))
+        } else {
+            None
+        };
+        Ok(Teller {
+            alloc,
+            failed: 0,
+            page,
+            limits: Limits::standard(),
+            world: World::new(alloc)?,
+            asked: Asked::Nothing,
+            script: Script::new(alloc),
+            want: Vec::new(alloc),
+            ending: String::new(alloc),
+            why: String::new(alloc),
+            also: Vec::new(alloc),
+            past: None,
+        })
+    }
+
+    /// Goes on by a line.
+    pub fn tell(&mut self, line: &str) -> Result<(), Wrong> {
+        let (word, rest) = first_word(line);
+        match word {
+            "" | "#" => self.show(line),
+            ">" => {
+                self.show(line)?;
+                self.ask(rest, "\n")
+            }
+            ">-" => {
+                self.show(line)?;
+                self.ask(rest, "")
+            }
+            "<" => self.expect(line, rest, "\n"),
+            "<-" => self.expect(line, rest, ""),
+            "status" => {
+                self.ending = String::from_str(self.alloc, rest)?;
+                Ok(())
+            }
+            "why" => {
+                self.why = String::from_str(self.alloc, rest)?;
+                Ok(())
+            }
+            "also" => {
+                self.show(line)?;
+                self.also.push(Also {
+                    line: number(rest)? as usize,
+                    put: Vec::new(self.alloc),
+                })?;
+                Ok(())
+            }
+            _ => {
+                self.finish()?;
+                self.show(line)?;
+                self.direct(word, rest)
+            }
+        }
+    }
+
+    fn show(&mut self, line: &str) -> Result<(), Wrong> {
+        if let Some(page) = &mut self.page {
+            page.add(line)?;
+        }
+        Ok(())
+    }
+
+    fn ask(&mut self, text: &str, end: &str) -> Result<(), Wrong> {
+        let mut line = Vec::new(self.alloc);
+        put_ended(self.alloc, text, end, &mut line)?;
+        self.script.lines.push(line)?;
+        Ok(())
+    }
+
+    fn expect(&mut self, line: &str, text: &str, end: &str) -> Result<(), Wrong> {
+        if !self.also.is_empty() {
+            self.show(line)?;
+        } else if let Some(page) = &mut self.page {
+            page.say(line)?;
+        }
+        match self.also.last_mut() {
+            Some(one) => put_ended(self.alloc, text, end, &mut one.put),
+            None => put_ended(self.alloc, text, end, &mut self.want),
+        }
+    }
+
+    /// Does what a line says that isn't within a run.
+    fn direct(&mut self, word: &str, rest: &str) -> Result<(), Wrong> {
+        match word {
+            "limits" => self.lower_limits(rest),
+            "put" => self.put(rest),
+            "see" => self.see(rest),
+            "fault" => self.fail(rest),
+            "clock" => {
+                self.script.moments = numbers_of(self.alloc, rest)?;
+                Ok(())
+            }
+            "source" => self.set_source(rest),
+            "sink" => self.set_sink(rest),
+            "run" => self.begin(rest),
+            "each" => self.look(),
+            "crash" => self.world.crash(&choices_of(self.alloc, rest)?),
+            "or" => self.world.crash_again(&choices_of(self.alloc, rest)?),
+            _ => Err(Wrong::Line("no such word")),
+        }
+    }
+
+    fn lower_limits(&mut self, rest: &str) -> Result<(), Wrong> {
+        for part in rest.split_whitespace() {
+            let (name, value) = pair_of(part)?;
+            lower(&mut self.limits, name, number(value)?)?;
+        }
+        Ok(())
+    }
+
+    fn put(&mut self, rest: &str) -> Result<(), Wrong> {
+        let (name, frames) = file_line(rest)?;
+        let bytes = file_bytes(self.alloc, frames)?;
+        self.world.put(file_of(name)?, &bytes)
+    }
+
+    fn see(&mut self, rest: &str) -> Result<(), Wrong> {
+        let (name, frames) = file_line(rest)?;
+        let want = file_bytes(self.alloc, frames)?;
+        let file = file_of(name)?;
+        match &mut self.page {
+            Some(page) => show_file(self.alloc, page, &self.world, name, file, &want),
+            None => self.compare_files(name, file, &want),
+        }
+    }
+
+    /// Each disk has this file.
+    fn compare_files(&self, name: &str, file: FileId, want: &[u8]) -> Result<(), Wrong> {
+        for disk in &self.world.disks {
+            same_bytes(self.alloc, name, want, disk.file_bytes(file))?;
+        }
+        Ok(())
+    }
+
+    fn fail(&mut self, rest: &str) -> Result<(), Wrong> {
+        let (file, call) = first_word(rest);
+        let (op, nth) = first_word(call);
+        self.world.fail(FaultAt {
+            file: file_of(file)?,
+            op: op_of(op)?,
+            nth: number(nth)?,
+        })
+    }
+
+    fn set_source(&mut self, rest: &str) -> Result<(), Wrong> {
+        for part in rest.split_whitespace() {
+            match pair_of(part)? {
+                ("pieces", count) => self.script.pieces = number(count)? as usize,
+                ("fails", nth) => self.script.failed_takes.push(number(nth)?)?,
+                _ => return Err(Wrong::Line("a source has pieces= and fails=")),
+            }
+        }
+        Ok(())
+    }
+
+    fn set_sink(&mut self, rest: &str) -> Result<(), Wrong> {
+        for part in rest.split_whitespace() {
+            match pair_of(part)? {
+                ("takes", count) => self.script.takes = number(count)? as usize,
+                ("fails", nth) => self.script.failed_puts.push(number(nth)?)?,
+                _ => return Err(Wrong::Line("a sink has takes= and fails=")),
+            }
+        }
+        Ok(())
+    }
+
+    /// A run with these words is asked for.
+    fn begin(&mut self, rest: &str) -> Result<(), Wrong> {
+        for word in words_of(self.alloc, rest)? {
+            let mut bytes = Vec::new(self.alloc);
+            put_text(self.alloc, word.as_str(), &mut bytes)?;
+            let Ok(text) = str::from_utf8(&bytes) else {
+                return Err(Wrong::Line("a word is no text"));
+            };
+            self.script.words.push(Text::from_str(self.alloc, text)?)?;
+        }
+        self.asked = Asked::Run;
+        self.ending = String::from_str(self.alloc, "0")?;
+        Ok(())
+    }
+
+    /// A look at the disk is asked for, with the words of the last run.
+    fn look(&mut self) -> Result<(), Wrong> {
+        let Some(past) = &self.past else {
+            return Err(Wrong::Line("there was no run before"));
+        };
+        for word in &past.script.words {
+            self.script.words.push(word.clone()?)?;
+        }
+        self.asked = Asked::EachFault;
+        self.ending = String::from_str(self.alloc, "0")?;
+        Ok(())
+    }
+
+    /// Does what is asked for, and compares.
+    pub fn finish(&mut self) -> Result<(), Wrong> {
+        match self.asked {
+            Asked::Nothing => {}
+            Asked::Run => self.finish_run()?,
+            Asked::EachFault => self.finish_look()?,
+        }
+        if let Some(page) = &mut self.page {
+            page.flush()?;
+        }
+        Ok(())
+    }
+
+    fn finish_run(&mut self) -> Result<(), Wrong> {
+        self.asked = Asked::Nothing;
+        let script = mem::replace(&mut self.script, Script::new(self.alloc));
+        let want = mem::replace(&mut self.want, Vec::new(self.alloc));
+        let why = mem::replace(&mut self.why, String::new(self.alloc));
+        let before = self.world.copy()?;
+        self.world.begin();
+        for i in 0..self.world.disks.len() {
+            let came = self.run_on(i, &script)?;
+            match &mut self.page {
+                Some(page) if i == 0 => {
+                    page.fill(&came.put, came.ending.as_str(), came.why.as_str())?
+                }
+                Some(_) => {}
+                None => self.compare(&want, why.as_str(), &came)?,
+            }
+        }
+        self.past = Some(Past {
+            script,
+            limits: self.limits,
+            before,
+        });
+        Ok(())
+    }
+
+    /// Runs it on one of the disks.
+    fn run_on(&mut self, i: usize, script: &Script) -> Result<Came, Wrong> {
+        let Some(disk) = self.world.disks.get_mut(i) else {
+            return Err(Wrong::Line("there is no disk"));
+        };
+        script.run(self.alloc, &self.limits, &script.lines, disk)
+    }
+
+    fn finish_look(&mut self) -> Result<(), Wrong> {
+        self.asked = Asked::Nothing;
+        let look = mem::replace(&mut self.script, Script::new(self.alloc));
+        let looked = self.look_by(&look);
+        self.want.clear();
+        self.also.clear();
+        looked
+    }
+
+    fn look_by(&mut self, look: &Script) -> Result<(), Wrong> {
+        let Some(past) = &self.past else {
+            return Err(Wrong::Line("there was no run before"));
+        };
+        let seen = seen_after(self.alloc, past, look, &past.script.lines)?;
+        if let Some(page) = &mut self.page {
+            page.fill(&seen, "0", "")?;
+            return Ok(());
+        }
+        same_lines(self.alloc, &self.want, &seen)?;
+        let count = sweep(self.alloc, past, look, &self.also)?;
+        self.failed = self.failed.saturating_add(count);
+        Ok(())
+    }
+
+    fn compare(&self, want: &[u8], why: &str, came: &Came) -> Result<(), Wrong> {
+        same_lines(self.alloc, want, &came.put)?;
+        let ending = self.ending.as_str();
+        same_text(self.alloc, "the status", ending, came.ending.as_str())?;
+        same_text(self.alloc, "the cause", why, came.why.as_str())
+    }
+}
+
+/// Shows the line of a file as it stands where it says what is there, and else with the bytes.
+fn show_file(
+    alloc: Global,
+    page: &mut Page,
+    world: &World,
+    name: &str,
+    file: FileId,
+    want: &[u8],
+) -> Result<(), Wrong> {
+    for disk in world.disks.iter().take(1) {
+        let came = disk.file_bytes(file);
+        if came != want {
+            let hex = hex_of(alloc, came)?;
+            page.replace(format!(in alloc; "see {name} = {hex}")?)?;
+        }
+    }
+    Ok(())
+}
+
+/// Puts the bytes that a text stands for, and the end of its line.
+fn put_ended(alloc: Global, text: &str, end: &str, out: &mut Vec<u8>) -> Result<(), Wrong> {
+    put_text(alloc, text, out)?;
+    out.extend_from_slice(end.as_bytes())?;
+    Ok(())
+}
+
+/// The numbers of a line.
+fn numbers_of(alloc: Global, rest: &str) -> Result<Vec<u64>, Wrong> {
+    let mut numbers = Vec::new(alloc);
+    for word in rest.split_whitespace() {
+        numbers.push(number(word)?)?;
+    }
+    Ok(numbers)
+}
+
+/// What stands before the = of a word, and behind it.
+fn pair_of(word: &str) -> Result<(&str, &str), Wrong> {
+    word.split_once('=').ok_or(Wrong::Line("no = in a word"))
+}
+
+/// What stands before the = of a line, and behind it.
+fn file_line(rest: &str) -> Result<(&str, &str), Wrong> {
+    rest.split_once(" =")
+        .ok_or(Wrong::Line("no = behind the file"))
+}
