@@ -6,7 +6,7 @@ use std::alloc::{AllocError, Global};
 use std::fs::{File, Files, OpenOptions};
 use std::io;
 use std::io::ErrorKind;
-use txn_base::FileId;
+use txn_base::{FileId, FileName};
 
 /// A file that was opened. After a sync that failed it is broken: a later sync can answer Ok for bytes that the system
 /// has dropped, so no call on it is answered Ok until the program is started again.
