@@ -2,6 +2,7 @@
 ghost use Rattle.std.specs.Prelude.{[]};
 ghost use Rattle.pulsar_txn.specs.Counts.{part_count};
 
+use crate::calls::Calls;
 use crate::counts::Counts;
 use crate::files::{FolderFiles, MAX_SIZE};
 use std::alloc::Global;
@@ -13,6 +14,7 @@ use txn_base::{Disk, Failed, FileId, Text};
 pub struct FolderDisk<R: Files<File = File> + Drop> {
     files: FolderFiles<R>,
     counts: Counts,
+    calls: Calls,
 }
 
 impl<R: Files<File = File> + Drop> FolderDisk<R> {
@@ -21,6 +23,7 @@ impl<R: Files<File = File> + Drop> FolderDisk<R> {
         FolderDisk {
             files: FolderFiles::new(alloc, files, path),
             counts: Counts::new(),
+            calls: Calls { all: 0, writes: 0 },
         }
     }
 }
@@ -40,6 +43,10 @@ impl<R: Files<File = File> + Drop> Disk for FolderDisk<R> {
 
     ghost part_faults = { λ disk. part_count disk.counts };
 
+    ghost calls = { λ disk. disk.calls.all };
+
+    ghost writes = { λ disk. disk.calls.writes };
+
     ghost seen_is_image = { λ disk told. told };
 
     ghost image_is_told = { λ disk c at. at };
@@ -51,6 +58,7 @@ impl<R: Files<File = File> + Drop> Disk for FolderDisk<R> {
     ghost only_now = { λ disk c left. left };
 
     fn size(&mut self, file: FileId) -> Result<u64, Failed> {
+        self.calls.look();
         match self.files.size_of(file) {
             Ok(size) if size <= MAX_SIZE => Ok(size),
             _ => {
@@ -61,6 +69,7 @@ impl<R: Files<File = File> + Drop> Disk for FolderDisk<R> {
     }
 
     fn read(&mut self, file: FileId, offset: u64, into: &mut [u8]) -> Result<(), Failed> {
+        self.calls.look();
         match self.files.read_into(file, offset, into) {
             Ok(()) => Ok(()),
             Err(_) => {
@@ -71,6 +80,7 @@ impl<R: Files<File = File> + Drop> Disk for FolderDisk<R> {
     }
 
     fn write_at(&mut self, file: FileId, offset: u64, bytes: &[u8]) -> Result<(), Failed> {
+        self.calls.write();
         match self.files.write_into(file, offset, bytes) {
             Ok(()) => Ok(()),
             Err(_) => {
@@ -81,6 +91,7 @@ impl<R: Files<File = File> + Drop> Disk for FolderDisk<R> {
     }
 
     fn resize(&mut self, file: FileId, size: u64) -> Result<(), Failed> {
+        self.calls.write();
         match self.files.resize_to(file, size) {
             Ok(()) if size <= MAX_SIZE => Ok(()),
             _ => {
@@ -91,6 +102,7 @@ impl<R: Files<File = File> + Drop> Disk for FolderDisk<R> {
     }
 
     fn sync(&mut self, file: FileId) -> Result<(), Failed> {
+        self.calls.write();
         match self.files.bring_to_disk(file) {
             Ok(()) => Ok(()),
             Err(_) => {

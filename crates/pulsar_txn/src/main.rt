@@ -6,6 +6,7 @@ ghost use Rattle.pulsar_txn.specs.CommandLine.{given};
 ghost use Rattle.txn_base.specs.declared.usage.Usage.{Usage};
 ghost use Rattle.txn_run.specs.declared.status.RunStatus.TheVariants as status;
 
+mod calls;
 mod clock;
 mod command_line;
 mod counts;

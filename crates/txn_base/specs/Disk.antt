@@ -62,7 +62,7 @@ pub record HasPartCause {T E : Type 0} (part before now : ℕ) (parts_before par
   pub later : before ≤ now
   pub parts_later : (p : ℕ) → parts_before p ≤ parts_now p
   pub failed : OnErr result (Rose before now × Rose (parts_before part) (parts_now part))
-  pub others : (p : ℕ) → p < 64 → (p ≡ part → ⊥) → parts_now p ≡ parts_before p
+  pub others : (p : ℕ) → p < 128 → (p ≡ part → ⊥) → parts_now p ≡ parts_before p
 
 -- A call on files of this part may answer, among other refusals, a fault, which comes only where the count and that of
 -- the part rose. No count falls.
@@ -70,4 +70,4 @@ pub record CountsFaults (part before now : ℕ) (parts_before parts_now : ℕ �
   pub later : before ≤ now
   pub parts_later : (p : ℕ) → parts_before p ≤ parts_now p
   pub failed : is_fault → Rose before now × Rose (parts_before part) (parts_now part)
-  pub others : (p : ℕ) → p < 64 → (p ≡ part → ⊥) → parts_now p ≡ parts_before p
+  pub others : (p : ℕ) → p < 128 → (p ≡ part → ⊥) → parts_now p ≡ parts_before p

@@ -6,6 +6,10 @@ use Rattle.std.specs.Io.KnownBytes.{Appends}
 abbrev pub Rose : ℕ → ℕ → Type 0
 Rose before now = min (before + 1) (2 ^ 64 - 1) ≤ now
 
+-- A count after so many more. It stands still at its type's end.
+abbrev pub counted : ℕ → ℕ → ℕ
+counted more count = min (count + more) (2 ^ 64 - 1)
+
 -- a count never falls, and a call fails only where it rose
 pub record HasCause {T E : Type 0} (before now : ℕ) (result : Result T E) : Type 0 where
   pub later : before ≤ now

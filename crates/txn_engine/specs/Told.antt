@@ -45,7 +45,7 @@ pub record CountsWithin (n before now : ℕ) (parts_before parts_now : ℕ → �
   pub later : before ≤ now
   pub parts_later : (p : ℕ) → parts_before p ≤ parts_now p
   pub failed : is_fault → (p : ℕ) × (p ≤ n) × RoseFor before now parts_before parts_now p
-  pub others : (p : ℕ) → n < p → p < 64 → parts_now p ≡ parts_before p
+  pub others : (p : ℕ) → n < p → p < 128 → parts_now p ≡ parts_before p
 
 -- From v to v', over these disks, all that was rebuilt stays so, or a fault is told; what is rebuilt stays tied to the
 -- ledgers, and they to each image; whatever world each image at the call extends soundly, each image since does; and no

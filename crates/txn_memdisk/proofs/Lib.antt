@@ -6,3 +6,4 @@ pub mod Mirrored
 pub mod Pieces
 pub mod Since
 pub mod Undoing
+mod Named

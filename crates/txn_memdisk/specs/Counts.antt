@@ -6,6 +6,6 @@ use Rattle.txn_memdisk.specs.declared.counts.Counts.{Counts}
 abbrev pub raised : ℕ → ℕ
 raised count = min (count + 1) (2 ^ 64 - 1)
 
--- The count of a part. All parts from 64 on have one.
+-- The count of a part. All parts from 128 on have one.
 abbrev pub part_count : Counts → ℕ → ℕ
-part_count counts p = if nat_lt p 64 then slice_index counts.parts p else counts.beyond
+part_count counts p = if nat_lt p 128 then slice_index counts.parts p else counts.beyond

@@ -28,6 +28,12 @@ faults_of disk = disk.counts.all
 abbrev pub part_faults_of : MemDisk → ℕ → ℕ
 part_faults_of disk = part_count disk.counts
 
+abbrev pub calls_of : MemDisk → ℕ
+calls_of disk = disk.calls.all
+
+abbrev pub writes_of : MemDisk → ℕ
+writes_of disk = disk.calls.writes
+
 -- of each file, what a read gives, what it held at its last sync, and the changes since
 abbrev pub entries_of : MemDisk → FileId → Entry
 entries_of disk = entry_in disk.files.items

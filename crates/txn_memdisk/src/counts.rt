@@ -3,11 +3,11 @@ ghost use Rattle.std.specs.Prelude.{◌≡◌, ◌<◌, ◌≤◌, ℕ};
 
 use txn_base::Failed;
 
-/// The failed calls: all of them, and by the part of the file. The parts from 64 on share one count.
+/// The failed calls: all of them, and by the part of the file. The parts from 128 on share one count.
 #[derive(Drop)]
 pub struct Counts {
     pub all: u64,
-    pub parts: [u64; 64],
+    pub parts: [u64; 128],
     pub beyond: u64,
 }
 
@@ -21,7 +21,7 @@ impl Counts {
     {
         Counts {
             all: 0,
-            parts: [0; 64],
+            parts: [0; 128],
             beyond: 0,
         }
     }
@@ -32,10 +32,10 @@ impl Counts {
         ensures later { self.old.all ≤ self.new.all }
         ensures part { part_count self.new part ≡ raised (part_count self.old part) }
         ensures parts_later { (p : ℕ) → part_count self.old p ≤ part_count self.new p }
-        ensures others { (p : ℕ) → p < 64 → (p ≡ part → ⊥) → part_count self.new p ≡ part_count self.old p }
+        ensures others { (p : ℕ) → p < 128 → (p ≡ part → ⊥) → part_count self.new p ≡ part_count self.old p }
     {
         self.all = self.all.saturating_add(1);
-        if part < 64 {
+        if part < 128 {
             let at = part as usize;
             self.parts[at] = self.parts[at].saturating_add(1);
         } else {

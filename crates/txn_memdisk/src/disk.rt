@@ -3,16 +3,18 @@ ghost use Rattle.std.specs.Prelude.{◌≡◌, ◌+◌, ◌≤◌, ◌<◌, ◌^
 ghost use Rattle.std.proofs.Common.{inl};
 ghost use Rattle.txn_base.specs.declared.file_id.FileId.{FileId};
 ghost use Rattle.txn_base.specs.Disk.{Files, Same, Elsewhere, Changes, Torn, OldOrResized, overwritten, resized, Since, Only, HasPartCause};
+ghost use Rattle.txn_base.specs.Outside.{counted};
 ghost use Rattle.txn_memdisk.specs.Counts.{raised};
 ghost use Rattle.txn_memdisk.specs.Crash.{chosen};
 ghost use Rattle.txn_memdisk.specs.Faults.{is_listed_at};
 ghost use Rattle.txn_memdisk.specs.Files.{Becomes, nothing, written_entry, lost_entry, sized_entry, sure_entry};
 ghost use Rattle.txn_memdisk.specs.Past.{only_last};
 ghost use Rattle.txn_memdisk.specs.Mixed.{mixed_image};
-ghost use Rattle.txn_memdisk.specs.Disk.{seen_of, image_of, moment_of, left_of, faults_of, part_faults_of, entries_of, waits_of, SameEntries, HasEntry, IsCounted};
+ghost use Rattle.txn_memdisk.specs.Disk.{seen_of, image_of, moment_of, left_of, faults_of, part_faults_of, calls_of, writes_of, entries_of, waits_of, SameEntries, HasEntry, IsCounted};
 
 mod told;
 
+use crate::calls::Calls;
 use crate::counts::Counts;
 use crate::crash::{Choice, all_left};
 use crate::fault::{FaultAt, Op, fires_at};
@@ -36,6 +38,7 @@ pub struct MemDisk {
     /// The calls that are to fail, each with the number of calls that it takes to come to it.
     waits: Vec<FaultAt>,
     counts: Counts,
+    calls: Calls,
 }
 
 impl Disk for MemDisk {
@@ -53,6 +56,10 @@ impl Disk for MemDisk {
 
     ghost part_faults = { part_faults_of };
 
+    ghost calls = { calls_of };
+
+    ghost writes = { writes_of };
+
     ghost seen_is_image = { λ disk told file. inl refl };
 
     ghost image_is_told = { λ disk c at. tt };
@@ -69,10 +76,13 @@ impl Disk for MemDisk {
         ensures seen { seen_of self.new ≡ seen_of self.old }
         ensures images { Since moment_of image_of left_of Same self.old self.new }
         ensures cause { HasPartCause file.part (faults_of self.old) (faults_of self.new) (part_faults_of self.old) (part_faults_of self.new) result }
+        ensures calls { calls_of self.new ≡ counted 1 (calls_of self.old) }
+        ensures writes { writes_of self.new ≡ writes_of self.old }
         ensures counted { IsCounted Op.Size file result self.old self.new }
         ensures failed { OnErr result ((is_listed_at file Op.Size (waits_of self.old) ≡ true) ⊎ (2 ^ 50 < length (seen_of self.old file))) }
         ensures entries { SameEntries self.old self.new }
     {
+        self.calls.look();
         if fires_at(&mut self.waits, file, Op::Size) {
             return Err(self.counts.rise(file.part));
         }
@@ -89,10 +99,13 @@ impl Disk for MemDisk {
         ensures seen { seen_of self.new ≡ seen_of self.old }
         ensures images { Since moment_of image_of left_of Same self.old self.new }
         ensures cause { HasPartCause file.part (faults_of self.old) (faults_of self.new) (part_faults_of self.old) (part_faults_of self.new) result }
+        ensures calls { calls_of self.new ≡ counted 1 (calls_of self.old) }
+        ensures writes { writes_of self.new ≡ writes_of self.old }
         ensures counted { IsCounted Op.Read file result self.old self.new }
         ensures failed { OnErr result ((is_listed_at file Op.Read (waits_of self.old) ≡ true) × (into.new ≡ into.old)) }
         ensures entries { SameEntries self.old self.new }
     {
+        self.calls.look();
         if fires_at(&mut self.waits, file, Op::Read) {
             return Err(self.counts.rise(file.part));
         }
@@ -105,13 +118,17 @@ impl Disk for MemDisk {
     fn write_at(&mut self, file: FileId, offset: u64, bytes: &[u8]) -> Result<(), Failed>
         requires { Unit {0} → offset + length bytes.now ≤ length (seen_of self.old file) }
         ensures written { OnOk result (seen_of self.new file ≡ overwritten offset bytes.now (seen_of self.old file)) }
+        ensures torn { OnErr result (Torn offset (length bytes.now) (seen_of self.old file) (seen_of self.new file)) }
         ensures others { Elsewhere file (seen_of self.old) (seen_of self.new) }
         ensures images { Since moment_of image_of left_of (Changes file (Torn offset (length bytes.now))) self.old self.new }
         ensures cause { HasPartCause file.part (faults_of self.old) (faults_of self.new) (part_faults_of self.old) (part_faults_of self.new) result }
+        ensures calls { calls_of self.new ≡ counted 1 (calls_of self.old) }
+        ensures writes { writes_of self.new ≡ counted 1 (writes_of self.old) }
         ensures counted { IsCounted Op.WriteAt file result self.old self.new }
         ensures entries { OnOk result (HasEntry file (written_entry offset bytes.now (entries_of self.old file)) self.old self.new) }
         ensures failed { OnErr result (SameEntries self.old self.new ⊎ ((is_listed_at file Op.WriteAt (waits_of self.old) ≡ true) × (HasEntry file (lost_entry offset (length bytes.now) (entries_of self.old file)) self.old self.new))) }
     {
+        self.calls.write();
         if fires_at(&mut self.waits, file, Op::WriteAt) {
             return self.lose(file, offset, bytes.len() as u64);
         }
@@ -131,13 +148,17 @@ impl Disk for MemDisk {
     fn resize(&mut self, file: FileId, size: u64) -> Result<(), Failed>
         ensures bound { OnOk result (size ≤ 2 ^ 50) }
         ensures resized { OnOk result (seen_of self.new file ≡ resized size (seen_of self.old file)) }
+        ensures sized { OnErr result (OldOrResized size (seen_of self.old file) (seen_of self.new file)) }
         ensures others { Elsewhere file (seen_of self.old) (seen_of self.new) }
         ensures images { Since moment_of image_of left_of (Changes file (OldOrResized size)) self.old self.new }
         ensures cause { HasPartCause file.part (faults_of self.old) (faults_of self.new) (part_faults_of self.old) (part_faults_of self.new) result }
+        ensures calls { calls_of self.new ≡ counted 1 (calls_of self.old) }
+        ensures writes { writes_of self.new ≡ counted 1 (writes_of self.old) }
         ensures counted { IsCounted Op.Resize file result self.old self.new }
         ensures entries { OnOk result (HasEntry file (sized_entry size (entries_of self.old file)) self.old self.new) }
         ensures failed { OnErr result (SameEntries self.old self.new) }
     {
+        self.calls.write();
         if fires_at(&mut self.waits, file, Op::Resize) {
             return Err(self.counts.rise(file.part));
         }
@@ -155,10 +176,13 @@ impl Disk for MemDisk {
         ensures seen { seen_of self.new ≡ seen_of self.old }
         ensures images { Since moment_of image_of left_of Same self.old self.new }
         ensures cause { HasPartCause file.part (faults_of self.old) (faults_of self.new) (part_faults_of self.old) (part_faults_of self.new) result }
+        ensures calls { calls_of self.new ≡ counted 1 (calls_of self.old) }
+        ensures writes { writes_of self.new ≡ counted 1 (writes_of self.old) }
         ensures counted { IsCounted Op.Sync file result self.old self.new }
         ensures entries { OnOk result (HasEntry file (sure_entry (entries_of self.old file).seen) self.old self.new) }
         ensures failed { OnErr result (SameEntries self.old self.new) }
     {
+        self.calls.write();
         if fires_at(&mut self.waits, file, Op::Sync) {
             return Err(self.counts.rise(file.part));
         }
@@ -178,6 +202,7 @@ impl MemDisk {
         ensures waits { IfOk result (λ disk. waits_of disk ≡ faults.now) }
         ensures count { IfOk result (λ disk. faults_of disk ≡ 0) }
         ensures part_counts { IfOk result (λ disk. (p : ℕ) → part_faults_of disk p ≡ 0) }
+        ensures calls { IfOk result (λ disk. (calls_of disk ≡ 0) × (writes_of disk ≡ 0)) }
     {
         let waits = faults.to_vec(alloc)?;
         Ok(MemDisk {
@@ -186,6 +211,7 @@ impl MemDisk {
             past: Vec::new(alloc),
             waits,
             counts: Counts::new(),
+            calls: Calls { all: 0, writes: 0 },
         })
     }
 
@@ -199,6 +225,7 @@ impl MemDisk {
         ensures err { OnErr result (SameEntries self.old self.new) }
         ensures waits { waits_of self.new ≡ waits_of self.old }
         ensures counts { self.new.counts ≡ self.old.counts }
+        ensures calls { self.new.calls ≡ self.old.calls }
     {
         let bytes = bytes.to_vec(self.alloc)?;
         put(self.alloc, &mut self.files, &mut self.past, file, bytes)?;
@@ -220,6 +247,7 @@ impl MemDisk {
         ensures waits { IfOk result (λ disk. waits_of disk ≡ []) }
         ensures count { IfOk result (λ disk. faults_of disk ≡ 0) }
         ensures part_counts { IfOk result (λ disk. (p : ℕ) → part_faults_of disk p ≡ 0) }
+        ensures calls { IfOk result (λ disk. (calls_of disk ≡ 0) × (writes_of disk ≡ 0)) }
     {
         let files = all_left(self.alloc, choice, &self.files)?;
         Ok(MemDisk {
@@ -228,6 +256,7 @@ impl MemDisk {
             past: Vec::new(self.alloc),
             waits: Vec::new(self.alloc),
             counts: Counts::new(),
+            calls: Calls { all: 0, writes: 0 },
         })
     }
 
@@ -238,6 +267,7 @@ impl MemDisk {
         ensures cause { HasPartCause file.part (faults_of self.old) (faults_of self.new) (part_faults_of self.old) (part_faults_of self.new) result }
         ensures one_failed { (faults_of self.new ≡ raised (faults_of self.old)) × (part_faults_of self.new file.part ≡ raised (part_faults_of self.old file.part)) }
         ensures waits { waits_of self.new ≡ waits_of self.old }
+        ensures calls { self.new.calls ≡ self.old.calls }
         ensures entries { SameEntries self.old self.new ⊎ (HasEntry file (lost_entry offset count (entries_of self.old file)) self.old self.new) }
     {
         match lose(

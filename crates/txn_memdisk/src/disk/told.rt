@@ -1,12 +1,14 @@
 //! What a test asks of a disk in memory beside its calls: which calls are to fail, how many have, and which files there are.
-ghost use Rattle.std.specs.Prelude.{◌≡◌, ◌⊎◌, map, Contains, IfOk, OnOk, OnErr};
+ghost use Rattle.std.specs.Prelude.{◌≡◌, ◌⊎◌, map, IfOk, OnOk, OnErr};
+ghost use Rattle.std.specs.List.{Contains};
 ghost use Rattle.txn_base.specs.declared.file_id.FileId.{FileId};
 ghost use Rattle.txn_memdisk.specs.Files.{nothing, name_of};
 ghost use Rattle.txn_memdisk.specs.Disk.{entries_of, waits_of, faults_of};
 
 use crate::disk::MemDisk;
 use crate::fault::FaultAt;
-use std::alloc::AllocError;
+use crate::file::MemFile;
+use std::alloc::{AllocError, Global};
 use txn_base::FileId;
 
 impl MemDisk {
@@ -17,6 +19,7 @@ impl MemDisk {
         ensures files { self.new.files ≡ self.old.files }
         ensures past { self.new.past ≡ self.old.past }
         ensures counts { self.new.counts ≡ self.old.counts }
+        ensures calls { self.new.calls ≡ self.old.calls }
     {
         self.waits = faults.to_vec(self.alloc)?;
         Ok(())
@@ -35,6 +38,12 @@ impl MemDisk {
         ensures names { IfOk result (λ names. names.items ≡ map name_of self.now.files.items) }
         ensures others { IfOk result (λ names. (id : FileId) → Contains names.items id ⊎ (entries_of self.now id ≡ nothing)) }
     {
-        self.files.iter().map(|file| file.id).collect(self.alloc)
+        names_of(self.alloc, &self.files)
     }
+}
+
+fn names_of(alloc: Global, files: &[MemFile]) -> Result<Vec<FileId>, AllocError>
+    ensures { IfOk result (λ names. names.items ≡ map name_of files.now) }
+{
+    files.iter().map(|file| file.id).collect(alloc)
 }

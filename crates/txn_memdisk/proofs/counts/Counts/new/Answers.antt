@@ -9,4 +9,4 @@ zero_either_way true n e = e refl
 zero_either_way false n e = refl
 
 pub returns-clause-parts : goal.returns-clause-parts
-returns-clause-parts c = λ p. let zeros : List ℕ = replicate 64 0 in zero_either_way (nat_lt p 64) (get_or zeros p 0) (λ is. get_or-replicate 64 p 0 0 (ltb-true p 64 is))
+returns-clause-parts c = λ p. let zeros : List ℕ = replicate 128 0 in zero_either_way (nat_lt p 128) (get_or zeros p 0) (λ is. get_or-replicate 128 p 0 0 (ltb-true p 128 is))
