@@ -7,8 +7,8 @@ use Rattle.txn_base.specs.Content.{LedgerContent, settled, landed, begun, Backed
 use Rattle.txn_base.proofs.Logs.{settled_stands}
 use Rattle.txn_base.proofs.Moments.{weaker}
 use Rattle.txn_ledger.specs.Gate.{IsClosedAt, MayOpen}
-use Rattle.txn_ledger.specs.Ledger.{IsFile, StandsIn}
-use Rattle.txn_ledger.proofs.Frames.{closed_of_stands, all_or_none, opened_stands}
+use Rattle.txn_ledger.specs.Ledger.{IsFile, StandsIn, ExactlyIn}
+use Rattle.txn_ledger.proofs.Frames.{closed_of_stands, all_or_none, opened_stands, opened_is}
 
 module _ (content : LedgerContent) (is_settled : content.standing ≡ settled) (end : ℕ) (ends : end ≡ length (frames content.batches)) (file : FileId) (is : file ≡ content.key) where
   pub closed : (image : Files → Type 0) → Backed StandsIn image content → (c : Files) → image c → IsClosedAt end (c file)
@@ -40,3 +40,10 @@ module _ (content : LedgerContent) (is_settled : content.standing ≡ settled) (
           let behind : drop end (c content.key) ≡ 1 ∷ behind_gate batch = subst (λ (f : FileId). drop end (c f) ≡ 1 ∷ behind_gate batch) is (opened c at ∙ ap (λ (l : List ℕ). 1 ∷ l) tail_is) in
           opened_stands content.batches end ends batch _ _ is_batch (before d.0 d.1) d.2.here.front behind;
     }
+
+    -- and where the disk reads so, the file is just the frames
+    pub exact : (c : Files) → image new c → drop end (c file) ≡ 1 ∷ tail → ExactlyIn content.key c (landed content batch).batches
+    exact c at opened =
+        let d = here.at_end c at in
+        let behind : drop end (c content.key) ≡ 1 ∷ behind_gate batch = subst (λ (f : FileId). drop end (c f) ≡ 1 ∷ behind_gate batch) is (opened ∙ ap (λ (l : List ℕ). 1 ∷ l) tail_is) in
+        opened_is content.batches end ends batch _ _ (before d.0 d.1) d.2.here.front behind

@@ -13,6 +13,10 @@ IsFile key file = file ≡ key
 abbrev pub StandsIn : FileId → Files → List Batch → Type 0
 StandsIn key files batches = Stands (files key) batches
 
+-- The file is the frames of these batches, and no more.
+abbrev pub ExactlyIn : FileId → Files → List Batch → Type 0
+ExactlyIn key files batches = files key ≡ frames batches
+
 -- The file begins with the frames of these batches.
 abbrev pub BeginsIn : FileId → Files → List Batch → Type 0
 BeginsIn key files batches = (rest : List ℕ) × (files key ≡ frames batches ++ rest)

@@ -6,10 +6,13 @@ use Rattle.txn_base.specs.declared.file_id.FileId.{FileId}
 use Rattle.txn_base.specs.Disk.{Files}
 use Rattle.txn_base.specs.Frames.{Batch, frame, frames, Stands}
 use Rattle.txn_base.proofs.Unique.{stands_one}
-use Rattle.txn_ledger.specs.Ledger.{IsFile, StandsIn, BeginsIn}
+use Rattle.txn_ledger.specs.Ledger.{IsFile, StandsIn, BeginsIn, ExactlyIn}
 
 pub local : (key : FileId) (c d : Files) (batches : List Batch) → ((file : FileId) → IsFile key file → d file ≡ c file) → StandsIn key c batches → StandsIn key d batches
 local key c d batches same stands = subst (λ (bytes : List ℕ). Stands bytes batches) (sym (same key refl)) stands
+
+pub exact_local : (key : FileId) (c d : Files) (batches : List Batch) → ((file : FileId) → IsFile key file → d file ≡ c file) → ExactlyIn key c batches → ExactlyIn key d batches
+exact_local key c d batches same exact = same key refl ∙ exact
 
 pub one_list : (key : FileId) (c : Files) (a b : List Batch) → StandsIn key c a → StandsIn key c b → a ≡ b
 one_list key c a b one two = stands_one (c key) a b one two

@@ -19,6 +19,8 @@ pub fn read_record<D: Disk>(
     ensures seen { D.seen disk.new ≡ D.seen disk.old }
     ensures images { Since D.moment D.image D.left_since Same disk.old disk.new }
     ensures cause { CountsFaults file.part (D.faults disk.old) (D.faults disk.new) (D.part_faults disk.old) (D.part_faults disk.new) (result ≡ Err GetError.Fault) }
+    ensures calls { D.calls disk.new ≤ D.calls disk.old + 1 }
+    ensures writes { D.writes disk.new ≡ D.writes disk.old }
 {
     let mut bytes = Vec::new(alloc);
     bytes.resize(position.len as usize, 0)?;

@@ -1,10 +1,10 @@
 //! The ledger of one file.
-ghost use Rattle.std.specs.Prelude.{◌≡◌, ℕ, [], Err, IfOk, length};
+ghost use Rattle.std.specs.Prelude.{◌≡◌, ℕ, [], Err, IfOk};
 ghost use Rattle.txn_base.specs.Content.{settled, Backed};
 ghost use Rattle.txn_base.specs.Disk.{Elsewhere, Changes, Since, CountsFaults};
-ghost use Rattle.txn_base.specs.Frames.{IsDamagedAt, frames};
+ghost use Rattle.txn_base.specs.Frames.{IsDamagedAt};
 ghost use Rattle.txn_ledger.specs.Found.{KeepsList, KeepsDamaged};
-ghost use Rattle.txn_ledger.specs.Ledger.{StandsIn};
+ghost use Rattle.txn_ledger.specs.Ledger.{ExactlyIn, StandsIn};
 
 use crate::encode::{add_positions, encode};
 use crate::found::Found;
@@ -76,7 +76,7 @@ impl Ledger {
 
         // As the file read at the call, it stands for these batches.
         ensures told { D.tells → IfOk result (λ ledger. StandsIn file (D.seen disk.old) ledger.content.batches) }
-        ensures cut { D.tells → IfOk result (λ ledger. length (D.seen disk.new file) ≡ length (frames ledger.content.batches)) }
+        ensures exact { D.tells → IfOk result (λ ledger. ExactlyIn file (D.seen disk.new) ledger.content.batches) }
         ensures damaged { (entry : ℕ) → result ≡ Err (OpenError.Damaged entry) → D.tells → IsDamagedAt (D.seen disk.old file) entry }
 
         // Of a damaged file nothing is cut off.
@@ -126,7 +126,7 @@ impl Ledger {
 }
 
 impl RecordLog for Ledger {
-    ghost use Rattle.txn_ledger.specs.Ledger.{IsFile, StandsIn, BeginsIn};
+    ghost use Rattle.txn_ledger.specs.Ledger.{IsFile, StandsIn, BeginsIn, ExactlyIn};
     ghost use Rattle.txn_ledger.specs.LedgerLaws as laws;
 
     ghost content = { λ l. l.content };
@@ -141,7 +141,11 @@ impl RecordLog for Ledger {
 
     ghost begins = { BeginsIn };
 
+    ghost exactly = { ExactlyIn };
+
     ghost local = { laws.local };
+
+    ghost exact_local = { laws.exact_local };
 
     ghost stands_one = { laws.one_list };
 

@@ -4,6 +4,7 @@ ghost use Rattle.txn_base.specs.declared.file_id.FileId.{FileId};
 ghost use Rattle.txn_base.specs.Bytes.{contents_of};
 ghost use Rattle.txn_base.specs.Content.{LedgerContent, settled, landed, begun, IsInFlight, Backed, Appends, Settles};
 ghost use Rattle.txn_base.specs.Disk.{Files, Since, Same, HasPartCause, CountsFaults};
+ghost use Rattle.txn_base.specs.Outside.{counted};
 ghost use Rattle.txn_base.specs.Frames.{Batch, IsBatch, frame, records};
 ghost use Rattle.txn_ledger.specs.Log.{settled_as};
 
@@ -49,6 +50,9 @@ pub trait RecordLog {
     /// They begin with these batches, whatever stands behind.
     ghost begins: { FileId → Files → List Batch → Type 0 };
 
+    /// They are these batches, and no more.
+    ghost exactly: { FileId → Files → List Batch → Type 0 };
+
     /// The number of its records.
     fn len(&self) -> u64
         ensures { result ≡ length (records (content self.now).batches) };
@@ -64,7 +68,7 @@ pub trait RecordLog {
         ensures room_kept { room self.old ≤ room self.new }
         ensures content { content self.new ≡ content self.old };
 
-    /// Adds a batch, all of it or none, in room that was reserved. It takes no memory.
+    /// Adds a batch, all of it or none, in room that was reserved. It takes no memory, and five calls of the disk.
     fn append<D: Disk>(&mut self, disk: &mut D, batch: &[Bytes]) -> Result<(), Failed>
         requires settled { (content self.old).standing ≡ settled }
         requires batch { IsBatch (contents_of batch.now) }
@@ -73,12 +77,14 @@ pub trait RecordLog {
         requires backed { Backed stands (D.image disk.old) (content self.old) }
         ensures ok { OnOk result (content self.new ≡ landed (content self.old) (contents_of batch.now)) }
         ensures err { OnErr result (content self.new ≡ begun (content self.old) (contents_of batch.now)) }
+        ensures exact { D.tells → OnOk result (exactly (content self.new).key (D.seen disk.new) (content self.new).batches) }
         ensures spare { OnOk result (spare self.new + length batch.now ≡ spare self.old) }
         ensures room { room self.old ≤ room self.new }
         ensures backed { Backed stands (D.image disk.new) (content self.new) }
         ensures images { Since D.moment D.image D.left_since (Appends mine stands (content self.old) (contents_of batch.now)) disk.old disk.new }
         ensures others { (other : FileId) → (mine (content self.old).key other → ⊥) → D.seen disk.new other ≡ D.seen disk.old other }
-        ensures cause { HasPartCause (content self.old).key.part (D.faults disk.old) (D.faults disk.new) (D.part_faults disk.old) (D.part_faults disk.new) result };
+        ensures cause { HasPartCause (content self.old).key.part (D.faults disk.old) (D.faults disk.new) (D.part_faults disk.old) (D.part_faults disk.new) result }
+        ensures calls { OnOk result (D.calls disk.new ≡ counted 5 (D.calls disk.old)) };
 
     /// Finds out what became of a batch whose append failed, by its gate. It takes no memory.
     fn settle<D: Disk>(&mut self, disk: &mut D) -> Result<Settled, Failed>
@@ -108,10 +114,15 @@ pub trait RecordLog {
         ensures counted { steps.new ≡ steps.old + 1 }
         ensures seen { D.seen disk.new ≡ D.seen disk.old }
         ensures images { Since D.moment D.image D.left_since Same disk.old disk.new }
-        ensures cause { CountsFaults (content self.now).key.part (D.faults disk.old) (D.faults disk.new) (D.part_faults disk.old) (D.part_faults disk.new) (result ≡ Err GetError.Fault) };
+        ensures cause { CountsFaults (content self.now).key.part (D.faults disk.old) (D.faults disk.new) (D.part_faults disk.old) (D.part_faults disk.new) (result ≡ Err GetError.Fault) }
+        ensures calls { D.calls disk.new ≤ D.calls disk.old + 1 }
+        ensures writes { D.writes disk.new ≡ D.writes disk.old };
 
     /// Other files don't matter to what its files stand for.
     ghost local: { (key : FileId) (c d : Files) (batches : List Batch) → ((file : FileId) → mine key file → d file ≡ c file) → stands key c batches → stands key d batches };
+
+    /// The same of what its files are exactly.
+    ghost exact_local: { (key : FileId) (c d : Files) (batches : List Batch) → ((file : FileId) → mine key file → d file ≡ c file) → exactly key c batches → exactly key d batches };
 
     /// Its files stand for one list of batches.
     ghost stands_one: { (key : FileId) (c : Files) (a b : List Batch) → stands key c a → stands key c b → a ≡ b };

@@ -1,10 +1,10 @@
 //! A file that a crash may have left is brought to its frames.
-ghost use Rattle.std.specs.Prelude.{◌≡◌, ℕ, Err, length, IfOk};
+ghost use Rattle.std.specs.Prelude.{◌≡◌, ℕ, Err, IfOk};
 ghost use Rattle.txn_base.specs.Content.{Backed};
 ghost use Rattle.txn_base.specs.Disk.{Elsewhere, Changes, Since, CountsFaults};
-ghost use Rattle.txn_base.specs.Frames.{IsDamagedAt, frames};
+ghost use Rattle.txn_base.specs.Frames.{IsDamagedAt};
 ghost use Rattle.txn_ledger.specs.Found.{KeepsList, KeepsDamaged};
-ghost use Rattle.txn_ledger.specs.Ledger.{StandsIn};
+ghost use Rattle.txn_ledger.specs.Ledger.{ExactlyIn, StandsIn};
 ghost use Rattle.txn_ledger.specs.Tied.{IsScanned};
 
 use crate::OpenError;
@@ -20,7 +20,7 @@ pub fn find<D: Disk>(alloc: Global, disk: &mut D, file: FileId) -> Result<Found,
     ensures scanned { IfOk result (λ found. IsScanned found.carrier.content found.end found.positions.items) }
     ensures backed { IfOk result (λ found. Backed StandsIn (D.image disk.new) found.carrier.content) }
     ensures told { D.tells → IfOk result (λ found. StandsIn file (D.seen disk.old) found.carrier.content.batches) }
-    ensures cut { D.tells → IfOk result (λ found. length (D.seen disk.new file) ≡ length (frames found.carrier.content.batches)) }
+    ensures exact { D.tells → IfOk result (λ found. ExactlyIn file (D.seen disk.new) found.carrier.content.batches) }
     ensures damaged { (entry : ℕ) → result ≡ Err (OpenError.Damaged entry) → D.tells → IsDamagedAt (D.seen disk.old file) entry }
     ensures uncut { D.tells → KeepsDamaged (D.seen disk.old file) (D.seen disk.new file) }
     ensures images { Since D.moment D.image D.left_since (Changes file KeepsList) disk.old disk.new }

@@ -1,6 +1,7 @@
 //! All of a frame but its gate byte is brought to the disk.
 ghost use Rattle.std.specs.Prelude.{◌≡◌, ◌+◌, ◌^◌, ◌<◌, ◌≤◌, length, drop, OnOk};
 ghost use Rattle.txn_base.specs.Disk.{Files, Elsewhere, Changes, Only, Since, HasPartCause};
+ghost use Rattle.txn_base.specs.Outside.{counted};
 ghost use Rattle.txn_ledger.specs.Gate.{IsClosedAt, KeepsClosed};
 
 use txn_base::{Disk, Failed, FileId};
@@ -15,6 +16,7 @@ pub fn stage<D: Disk>(disk: &mut D, file: FileId, end: u64, tail: &[u8]) -> Resu
     ensures others { Elsewhere file (D.seen disk.old) (D.seen disk.new) }
     ensures bound { OnOk result (end + 1 + length tail.now ≤ 2 ^ 50) }
     ensures cause { HasPartCause file.part (D.faults disk.old) (D.faults disk.new) (D.part_faults disk.old) (D.part_faults disk.new) result }
+    ensures calls { OnOk result (D.calls disk.new ≡ counted 3 (D.calls disk.old)) }
 {
     disk.resize(file, end + 1 + tail.len() as u64)?;
     disk.write_at(file, end + 1, tail)?;
