@@ -1,13 +1,20 @@
-"""What a run of `lines orders` must do, read off docs/LINES.md and docs/FORMAT.md and written apart from the program: JSON,
-the forms of requests, frames, records, lawful lists, transactions, and the replies. It takes nothing from the program or its libraries."""
+"""What a run of `lines NAME` must do, read off docs/LINES.md and docs/FORMAT.md and written apart from the program: JSON, the
+forms of requests, frames, records, lawful lists, transactions, limits, and the replies, those to calls of the disk that fail
+too. It takes nothing from the program or its libraries."""
 import math
 import re
 
 TOPIC = "orders"
 LINE, MESSAGE, BATCH = 65_536, 32_768, 64
-READ_MESSAGES, READ_BYTES = 100, 262_144
+# Each limit may be lowered, down to 1. The last line has those of what isn't answered yet.
+LIMITS = {
+    "line": LINE, "message": MESSAGE, "batch": BATCH, "log": 1 << 32, "window": 65_536, "input": 1 << 32, "step": 64,
+    "read_messages": 100, "read_bytes": 262_144,
+    "places": 256, "held": 65_536, "ring": 64, "snapshot": 256, "segment": 65_536, "told": 1_048_576, "sessions": 1_024,
+}
 DEEPEST = 127
 WORD = 1 << 64
+LATEST = 1 << 62
 
 
 class Bad(Exception):
@@ -204,6 +211,18 @@ def request_of(line):
     return found if fits and all(key in found for key in needed) else None
 
 
+# ---- Names. The words of a command line are refused for the first of these causes.
+
+NAME = re.compile(r"[A-Za-z0-9_.][A-Za-z0-9_.-]{0,99}")
+
+
+def fault_of_words(words):
+    """Why the words behind the folder are no command line, or None."""
+    if len(words) != 2 or words[0] != "lines" or any(not word or word.startswith("-") for word in words):
+        return "words"
+    return None if NAME.fullmatch(words[1]) else f"bad name {words[1]}"
+
+
 # ---- Frames and records of a topic. An entry is its kind, its transaction (16 bytes, or none) and its body.
 
 PLAIN, OPENED, COMMIT, ABORT = 1, 2, 3, 4
@@ -285,6 +304,7 @@ def entries_of(records):
 NEW, ADD_PART, COMMITTING, COMMITTED, ABORTING, ABORTED = 1, 2, 3, 4, 5, 6
 STATUSES = {NEW: "open", COMMITTING: "committing", COMMITTED: "committed", ABORTING: "aborting", ABORTED: "aborted"}
 MORE = {NEW: 8, ADD_PART: 4, COMMITTING: 0, COMMITTED: 0, ABORTING: 0, ABORTED: 0}
+COORDINATOR = "@coordinator"
 BEFORE = {ADD_PART: NEW, COMMITTING: NEW, ABORTING: NEW, COMMITTED: COMMITTING, ABORTED: ABORTING}
 ENDS = {"commit": (COMMITTING, COMMITTED, COMMIT), "abort": (ABORTING, ABORTED, ABORT)}
 ANSWERED = ("new", "add", "publish", "commit", "abort", "status", "read")
@@ -339,11 +359,63 @@ def refused(word, **more):
     return "{" + ",".join(f'"{key}":{value if isinstance(value, int) else quoted(value)}' for key, value in members) + "}"
 
 
-class Topic:
-    """The one topic of a run: its entries, and the bytes of its ledger."""
+# ---- Files. What follows takes a file by the four calls of this class.
 
-    def __init__(self, entries, ledger):
-        self.entries, self.ledger = entries, ledger
+class Failed(Exception):
+    """A call of the disk failed, at a file of this part."""
+
+    def __init__(self, part):
+        super().__init__(part)
+        self.part = part
+
+
+class Kept:
+    """The bytes of a file, none of whose calls fails. A part is what a fault names."""
+
+    def __init__(self, data, part):
+        self.data, self.part = data, part
+
+    def start(self):
+        """An opening begins, and reads the frames."""
+
+    def cut(self, end):
+        """What stands behind the last frame goes."""
+        self.data = self.data[:end]
+
+    def look(self, count, is_least):
+        """So many records are read, or more where that is the least."""
+
+    def append(self, frame):
+        self.data += frame
+
+
+class Stopped(Exception):
+    """A file is damaged: what is said of it."""
+
+
+def opened(name, file, lists_of, step):
+    """What a file stands for, and the number of its records. A replay reads each record of a step before it tests any."""
+    try:
+        file.start()
+        records, end = records_of_file(file.data)
+        file.cut(end)
+        try:
+            found = lists_of(records)
+        except Damaged as damage:
+            behind = min(len(records), damage.entry // step * step + step)
+            file.look(damage.entry + 1, behind > damage.entry + 1)
+            raise
+    except Damaged as damage:
+        raise Stopped(f"damaged {name} {damage.entry}") from None
+    file.look(len(records), False)
+    return found, len(records)
+
+
+class Topic:
+    """The one topic of a run: its entries, and its ledger."""
+
+    def __init__(self, entries, ledger, limits):
+        self.entries, self.ledger, self.limits = entries, ledger, limits
         self.ends = {txn: kind for kind, txn, _ in entries if kind in (COMMIT, ABORT)}
 
     def limit(self):
@@ -353,79 +425,123 @@ class Topic:
     def publish(self, texts, txn):
         bodies = [text.encode() for text in texts]
         place = len(self.entries)
-        self.entries += [(OPENED if txn else PLAIN, txn, body) for body in bodies]
+        if place + len(bodies) > self.limits["log"]:
+            return refused("full", what="log", count=place)
         start = b"\1\2" + txn if txn else b"\1\1"
-        self.ledger += frame_of([start + body for body in bodies])
+        self.ledger.append(frame_of([start + body for body in bodies]))
+        self.entries += [(OPENED if txn else PLAIN, txn, body) for body in bodies]
         return f'{{"at":{place},"count":{len(bodies)},"ok":"publish"}}'
 
     def mark(self, txn, kind):
         """The marker of a transaction, where none stands."""
         if txn not in self.ends:
+            self.ledger.append(frame_of([bytes([1, kind]) + txn]))
             self.ends[txn] = kind
             self.entries.append((kind, txn, b""))
-            self.ledger += frame_of([bytes([1, kind]) + txn])
 
     def read(self, first, most):
+        """It reads each record up to the last that it tells, or to the limit. It may read on to the next visible one where it
+        tells no more of them."""
         shown, size, limit = [], 0, self.limit()
+        most, is_cut, seen = min(most, self.limits["read_messages"]), False, min(first, limit)
         for place in range(min(first, limit), limit):
             kind, txn, body = self.entries[place]
-            if kind == PLAIN or (kind == OPENED and self.ends[txn] == COMMIT):
+            is_cut = len(shown) == most
+            if not is_cut and (kind == PLAIN or (kind == OPENED and self.ends[txn] == COMMIT)):
                 size += len(body)
-                if len(shown) == min(most, READ_MESSAGES) or (shown and size > READ_BYTES):
-                    break
-                shown.append(f"[{place},{quoted(body.decode())}]")
+                is_cut = bool(shown) and size > self.limits["read_bytes"]
+                shown += [] if is_cut else [f"[{place},{quoted(body.decode())}]"]
+            if is_cut:
+                break
+            seen = place + 1
+        self.ledger.look(seen - min(first, limit), is_cut)
         return f'{{"limit":{limit},"messages":[{",".join(shown)}],"ok":"read"}}'
 
 
 class Coordinator:
-    """The transactions of a run: of each how far it is and whether the topic is its part; and the bytes of their log."""
+    """The transactions of a run: of each how far it is and whether the topic is its part; and their log, with its length."""
 
-    def __init__(self, transactions, log):
-        self.transactions, self.log = transactions, log
+    def __init__(self, transactions, length, log, limits):
+        self.transactions, self.length, self.log, self.limits = transactions, length, log, limits
+        opened = (number for number, (kind, _) in enumerate(transactions) if kind not in (COMMITTED, ABORTED))
+        self.low = next(opened, len(transactions))
 
     def add_entry(self, kind, number, more=b""):
-        self.log += frame_of([bytes([1, kind]) + bytes(8) + number.to_bytes(8, "big") + more])
+        self.log.append(frame_of([bytes([1, kind]) + bytes(8) + number.to_bytes(8, "big") + more]))
+        self.length += 1
         step(self.transactions, kind, number, more)
+
+    def begin(self, deadline):
+        number = len(self.transactions)
+        if number - self.low >= self.limits["window"]:
+            return refused("full", what="transactions", count=number - self.low)
+        if self.length >= self.limits["log"]:
+            return refused("full", what="log", count=self.length)
+        self.add_entry(NEW, number, deadline.to_bytes(8, "big"))
+        return f'{{"ok":"new","txn":[0,{number}]}}'
+
+    def add(self, number):
+        if not self.transactions[number][1]:
+            if self.length >= self.limits["log"]:
+                return refused("full", what="log", count=self.length)
+            self.add_entry(ADD_PART, number, (1).to_bytes(4, "big"))
+        return '{"ok":"add"}'
 
     def status(self, number):
         return STATUSES[self.transactions[number][0]]
 
 
-def too_big(texts):
-    return len(texts) > BATCH or max(len(text.encode()) for text in texts) > MESSAGE
+def moments_of(told):
+    """The moments of a clock, the last one again and again."""
+    yield from told
+    while True:
+        yield told[-1] if told else 0
 
 
 class World:
-    """A coordinator and a topic."""
+    """A coordinator and a topic of this name, over the files of both as opening leaves them. It is over where a write failed."""
 
-    def __init__(self, coordinator, topic):
-        self.coordinator, self.topic = coordinator, topic
+    def __init__(self, log, ledger, name=TOPIC, limits=LIMITS, clock=()):
+        self.name, self.limits, self.clock, self.now, self.is_over = name, limits, moments_of(clock), 0, False
+        step = limits["step"]
+        self.coordinator = Coordinator(*opened("p00-r0000000002", log, transactions_of, step), log, limits)
+        self.topic = Topic(opened("p01-r0000000002", ledger, entries_of, step)[0], ledger, limits)
 
     def answer(self, line):
         """The reply to a line, or None to a blank one."""
-        if len(line) > LINE:
+        if len(line) > self.limits["line"]:
             return TOO_LONG
         if not line.strip(b" \t\r"):
             return None
         request = request_of(line)
         if request is None or request["do"] not in ANSWERED:
             return BAD_LINE
-        name = request.get("topic", request.get("part", TOPIC))
-        if name != TOPIC:
+        if request["do"] == "new":
+            self.now = max(self.now, min(next(self.clock), LATEST))
+        name = request.get("topic", request.get("part", self.name))
+        if name != self.name:
             return f'{{"name":{quoted(name)},"no":"unknown_part"}}'
         if "txn" in request and request["txn"][0] != 0:
             return refused("unknown_coordinator", number=request["txn"][0])
         data = request.get("data")
         texts = [data] if is_text(data) else data
-        if texts and too_big(texts):
+        if texts and self.is_too_big(texts):
             return TOO_BIG
-        return self.lawful(request, texts)
+        try:
+            return self.lawful(request, texts)
+        except Failed as failed:
+            self.is_over = request["do"] != "read"
+            return refused("fault", part=failed.part)
+
+    def is_too_big(self, texts):
+        return len(texts) > self.limits["batch"] or max(len(text.encode()) for text in texts) > self.limits["message"]
 
     def lawful(self, request, texts):
         """The reply to a request that needs no look at the lists before."""
         do = request["do"]
         if do == "new":
-            return self.begin(request["timeout"])
+            timeout = request["timeout"]
+            return self.coordinator.begin(self.now + timeout) if 1 <= timeout <= DAY else refused("bad_timeout")
         if do == "read":
             return self.topic.read(request["from"], request["max"])
         if "txn" not in request:
@@ -434,13 +550,6 @@ class World:
         if number >= len(self.coordinator.transactions):
             return refused("not_found")
         return self.inside(do, number, texts)
-
-    def begin(self, timeout):
-        if not 1 <= timeout <= DAY:
-            return refused("bad_timeout")
-        number = len(self.coordinator.transactions)
-        self.coordinator.add_entry(NEW, number, timeout.to_bytes(8, "big"))
-        return f'{{"ok":"new","txn":[0,{number}]}}'
 
     def inside(self, do, number, texts):
         """The reply to a request in a transaction that is there."""
@@ -452,25 +561,27 @@ class World:
             return self.end(do, number, txn)
         if status != "open" or (do == "publish" and txn in self.topic.ends):
             return refused("not_open", status=status)
-        has_topic = self.coordinator.transactions[number][1]
         if do == "add":
-            if not has_topic:
-                self.coordinator.add_entry(ADD_PART, number, (1).to_bytes(4, "big"))
-            return '{"ok":"add"}'
-        return self.topic.publish(texts, txn) if has_topic else refused("not_registered", part=TOPIC)
+            return self.coordinator.add(number)
+        has_topic = self.coordinator.transactions[number][1]
+        return self.topic.publish(texts, txn) if has_topic else refused("not_registered", part=self.name)
 
     def end(self, do, number, txn):
-        """The decision, the marker and the close, each where it isn't there."""
+        """The decision, the marker and the close, each where it isn't there. A fault behind the decision is told with it."""
         decided, closed, marker = ENDS[do]
         kind, has_topic = self.coordinator.transactions[number]
         if kind not in (NEW, decided, closed):
             return refused("not_open", status=STATUSES[kind])
         if kind == NEW:
             self.coordinator.add_entry(decided, number)
-        if kind != closed:
-            if has_topic:
-                self.topic.mark(txn, marker)
-            self.coordinator.add_entry(closed, number)
+        try:
+            if kind != closed:
+                if has_topic:
+                    self.topic.mark(txn, marker)
+                self.coordinator.add_entry(closed, number)
+        except Failed as failed:
+            self.is_over = True
+            return f'{{"ok":"{do}","part":{quoted(failed.part)},"status":"{STATUSES[decided]}","why":"fault"}}'
         return f'{{"ok":"{do}","status":"{STATUSES[closed]}"}}'
 
 
@@ -480,34 +591,13 @@ def lines_of(given):
     return pieces if pieces[-1] else pieces[:-1]
 
 
-def opened(file, data, lists_of):
-    """What a file stands for, and its bytes as opening leaves them. Damage names the file."""
-    try:
-        records, end = records_of_file(data)
-    except Damaged as damage:
-        raise Stopped(f"damaged {file} {damage.entry}\n", data) from None
-    try:
-        return lists_of(records), data[:end]
-    except Damaged as damage:
-        raise Stopped(f"damaged {file} {damage.entry}\n", data[:end]) from None
-
-
-class Stopped(Exception):
-    """A file is damaged: what is said of it, and its bytes as opening leaves them."""
-
-
 def run(log, ledger, given):
-    """What a run over these two files and this input does: its status, the lines that it was given with what is told of each,
-    what it says on standard error, and the files that it leaves. It tells nothing over a damaged file. In the log that it leaves
-    a timeout stands in place of the deadline of each transaction that was begun."""
+    """What a run over these two files and this input does, none of whose calls fails: its status, the lines that it was given
+    with what is told of each, what it says on standard error, and the files that it leaves. It tells nothing over a damaged
+    file. The clock tells 0, so that in the log that it leaves a timeout stands in place of each deadline."""
+    log, ledger = Kept(log, COORDINATOR), Kept(ledger, TOPIC)
     try:
-        coordinator = Coordinator(*opened("p00-r0000000002", log, transactions_of))
+        world = World(log, ledger)
     except Stopped as stopped:
-        return 2, [], stopped.args[0], stopped.args[1], ledger
-    try:
-        topic = Topic(*opened("p01-r0000000002", ledger, entries_of))
-    except Stopped as stopped:
-        return 2, [], stopped.args[0], coordinator.log, stopped.args[1]
-    world = World(coordinator, topic)
-    told = [(line, world.answer(line)) for line in lines_of(given)]
-    return 0, told, "", coordinator.log, topic.ledger
+        return 2, [], f"{stopped}\n", log.data, ledger.data
+    return 0, [(line, world.answer(line)) for line in lines_of(given)], "", log.data, ledger.data
