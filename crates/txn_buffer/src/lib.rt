@@ -6,8 +6,6 @@ mod error;
 mod front;
 mod record;
 mod slice;
-#[cfg(test)]
-mod tests;
 mod topic;
 
 pub use error::TopicError;

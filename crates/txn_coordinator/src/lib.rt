@@ -12,6 +12,3 @@ mod table;
 
 pub use coordinator::Coordinator;
 pub use error::CoordError;
-
-#[cfg(test)]
-mod tests;

@@ -20,6 +20,3 @@ pub use disk::MemDisk;
 pub use fault::{FaultAt, Op};
 pub use sink::MemSink;
 pub use source::MemSource;
-
-#[cfg(test)]
-mod tests;

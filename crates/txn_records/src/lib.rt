@@ -11,8 +11,6 @@ mod laws;
 mod name;
 mod places;
 mod snapshot;
-#[cfg(test)]
-mod tests;
 mod topic;
 mod topic_write;
 

@@ -1,9 +1,5 @@
-//! Tests of the parts under a run, each over a disk in memory.
+//! Tests of calls: of the parts under a run, each over a disk in memory, and of that disk.
 #![tactic(auto)]
-
-mod records;
-
-pub use records::record_at;
 
 #[cfg(test)]
 mod tests;

@@ -1,6 +1,10 @@
-//! Tests, by theme. What they expect was worked out by hand from the rules.
+//! Tests, by theme, as tables. What they expect was worked out by hand from the rules.
 mod coordinators;
+mod ends;
+mod files;
 mod ledgers;
+mod locks;
 mod logs;
-mod steps;
+mod memory;
+mod models;
 mod topics;

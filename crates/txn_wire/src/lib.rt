@@ -10,8 +10,6 @@ mod short;
 mod short_pieces;
 mod short_refusals;
 mod short_replies;
-#[cfg(test)]
-mod tests;
 mod values;
 mod words;
 

@@ -1,14 +1,30 @@
 //! Ledgers over files in memory.
 ghost use Rattle.std.specs.Prelude.{◌≡◌};
+ghost use Rattle.txn_base.specs.Content.{Backed};
 
-use crate::record_at;
+use super::files::{TOPIC, disk_of};
 use std::alloc::{AllocError, Global};
 use std::marker::Brand;
 use std::sync::ledger::{self, Blank};
-use txn_base::{Bytes, Steps};
-use txn_fixtures::{A, TOPIC, disk_with};
+use txn_base::{Bytes, Disk, Steps};
 use txn_ledger::{GetError, Ledger, OpenError, RecordLog};
 use txn_memdisk::{FaultAt, MemDisk, Op};
+
+/// The record at a place, where there is one.
+fn record_at<D: Disk, R: RecordLog, L: ledger::Ledger>(
+    alloc: Global,
+    log: &R,
+    disk: &mut D,
+    place: u64,
+    steps: &mut Steps<L>,
+) -> Option<Result<Bytes, GetError>>
+    requires backed { Backed R.stands (D.image disk.old) (R.content log.now) }
+{
+    if place >= log.len() {
+        return None;
+    }
+    Some(log.get(alloc, disk, place, steps))
+}
 
 /// How many records a ledger has, and the one at a place.
 type Record = (u64, Option<Result<Bytes, GetError>>);
@@ -36,54 +52,51 @@ fn shown(alloc: Global, disk: &mut MemDisk, place: u64) -> Result<String, AllocE
 }
 
 // Two batches, of one record and of two. What they say is no matter to a ledger.
+const TWO: &[u8] = &[
+    1, 0, 0, 0, 4, 0, 2, 8, 9, 1, 0, 0, 0, 9, 0, 3, 1, 2, 3, 0, 2, 4, 5, 0, 1,
+];
+
+// The file of one batch, of the message "a".
+const A: &[u8] = &[1, 0, 0, 0, 5, 0, 3, 1, 1, b'a'];
+
+// Files; the read that fails, or 0 where none does; and a place, and what a ledger gives for it. The first read is that of the
+// opening, and the second that of the record.
+const RECORDS: [(&[u8], u64, u64, &str); 10] = [
+    (TWO, 0, 0, "Ok((3, Some(Ok(Bytes { items: [8, 9] }))))"),
+    (TWO, 0, 1, "Ok((3, Some(Ok(Bytes { items: [1, 2, 3] }))))"),
+    (TWO, 0, 2, "Ok((3, Some(Ok(Bytes { items: [4, 5] }))))"),
+    (TWO, 0, 3, "Ok((3, None))"),
+    (TWO, 0, u64::MAX, "Ok((3, None))"),
+    (&[], 0, 0, "Ok((0, None))"),
+    // The catalog of the one topic `orders`.
+    (
+        b"\x01\0\0\0\x0a\0\x08\x01\x01orders",
+        0,
+        0,
+        "Ok((1, Some(Ok(Bytes { items: [1, 1, 111, 114, 100, 101, 114, 115] }))))",
+    ),
+    (A, 2, 0, "Ok((1, Some(Err(Fault))))"),
+    (A, 1, 0, "Err(Fault)"),
+    (&[1, 0, 0, 0, 0], 2, 0, "Err(Damaged { entry: 0 })"),
+];
+
 #[test]
 fn records_are_those_of_the_frames(rt: HostRuntime) -> Result<(), AllocError> {
     let alloc = rt.alloc();
-    let bytes = [
-        1, 0, 0, 0, 4, 0, 2, 8, 9, 1, 0, 0, 0, 9, 0, 3, 1, 2, 3, 0, 2, 4, 5, 0, 1,
-    ];
-    let mut disk = disk_with(alloc, &bytes, &[])?;
-    for (place, want) in [
-        (0, "Ok((3, Some(Ok(Bytes { items: [8, 9] }))))"),
-        (1, "Ok((3, Some(Ok(Bytes { items: [1, 2, 3] }))))"),
-        (2, "Ok((3, Some(Ok(Bytes { items: [4, 5] }))))"),
-        (3, "Ok((3, None))"),
-        (u64::MAX, "Ok((3, None))"),
-    ] {
-        assert_eq!(rt; shown(alloc, &mut disk, place)?.as_str(), want);
-    }
-    assert_eq!(rt; disk.file_bytes(TOPIC), &bytes[..23]);
-    let mut disk = disk_with(alloc, &[], &[])?;
-    assert_eq!(rt; shown(alloc, &mut disk, 0)?.as_str(), "Ok((0, None))");
-
-    // The catalog of the one topic `orders`.
-    let mut disk = disk_with(alloc, b"\x01\0\0\0\x0a\0\x08\x01\x01orders", &[])?;
-    assert_eq!(rt;
-        shown(alloc, &mut disk, 0)?.as_str(),
-        "Ok((1, Some(Ok(Bytes { items: [1, 1, 111, 114, 100, 101, 114, 115] }))))"
-    );
-    Ok(())
-}
-
-// The first read is that of the opening, and the second that of the record.
-#[test]
-fn failed_read_gives_no_record(rt: HostRuntime) -> Result<(), AllocError> {
-    let alloc = rt.alloc();
-    let no_frame = [1, 0, 0, 0, 0];
-    let wants: [(&[u8], u64, &str); 3] = [
-        (A, 2, "Ok((1, Some(Err(Fault))))"),
-        (A, 1, "Err(Fault)"),
-        (&no_frame, 2, "Err(Damaged { entry: 0 })"),
-    ];
-    for (bytes, nth, want) in wants {
+    for (bytes, nth, place, want) in &RECORDS {
         let fault = FaultAt {
             file: TOPIC,
             op: Op::Read,
-            nth,
+            nth: *nth,
         };
-        let mut disk = disk_with(alloc, bytes, &[fault])?;
-        assert_eq!(rt; shown(alloc, &mut disk, 0)?.as_str(), want);
+        let mut disk = disk_of(alloc, TOPIC, bytes, &[fault])?;
+        assert_eq!(rt; shown(alloc, &mut disk, *place)?.as_str(), *want);
     }
+
+    // What stands behind the frames is cut.
+    let mut disk = disk_of(alloc, TOPIC, TWO, &[])?;
+    let _ = shown(alloc, &mut disk, 0)?;
+    assert_eq!(rt; disk.file_bytes(TOPIC), &TWO[..23]);
     Ok(())
 }
 

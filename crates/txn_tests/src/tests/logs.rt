@@ -1,49 +1,28 @@
-//! What a coordinator replays of small logs.
-ghost use Rattle.std.specs.Prelude.{◌≡◌, ◌≤◌, IfSome};
+//! What a coordinator replays of small logs, and steps of a replay that are refused at their fortieth record.
+ghost use Rattle.std.specs.Prelude.{◌≡◌, ◌≤◌};
 ghost use Rattle.txn_base.specs.Content.{Backed, looked_at};
-ghost use Rattle.txn_ledger.specs.Ledger.{StandsIn};
 
+use super::coordinators::{WINDOW, opened, reopened};
+use super::files::{LOG, Short, disk_of, log_file, txn};
 use std::alloc::{AllocError, Global};
 use std::marker::Brand;
 use std::sync::ledger::{self, Blank};
-use txn_base::{Decision, Disk, Limits, MendError, PartState, Progress, Status, Steps, TxnId};
-use txn_coordinator::{CoordError, Coordinator};
-use txn_fixtures::{LOG, Short, log_file};
+use txn_base::{Decision, Disk, MendError, PartState, Progress, Status, Steps, TxnId};
+use txn_coordinator::Coordinator;
 use txn_ledger::{Ledger, RecordLog};
 use txn_memdisk::{FaultAt, MemDisk, Op};
 
-const NEW: u8 = 1;
+pub const NEW: u8 = 1;
 
 const ADD: u8 = 2;
 
-const COMMITTING: u8 = 3;
+pub const COMMITTING: u8 = 3;
 
 const COMMITTED: u8 = 4;
 
 const ABORTING: u8 = 5;
 
 const ABORTED: u8 = 6;
-
-fn txn(least: u64) -> TxnId {
-    TxnId { most: 0, least }
-}
-
-/// A disk on which these entries are the log.
-fn disk_of(alloc: Global, entries: &[Short], faults: &[FaultAt]) -> Result<MemDisk, AllocError> {
-    let mut disk = MemDisk::new(alloc, faults)?;
-    let bytes = log_file(alloc, entries)?;
-    disk.put_file(LOG, bytes.as_slice())?;
-    Ok(disk)
-}
-
-/// Opens the log.
-fn opened<D: Disk>(alloc: Global, disk: &mut D) -> Option<Coordinator<Ledger>>
-    ensures standing { IfSome result (λ c. c.content.standing ≡ looked_at → ⊥) }
-    ensures backed { IfSome result (λ c. Backed StandsIn (D.image disk.new) c.content) }
-{
-    let log = Ledger::open_file(alloc, disk, LOG).ok()?;
-    Coordinator::over(alloc, log, &Limits::standard()).ok()
-}
 
 /// What a step of the replay told, how far it is then, and how many transactions there are.
 type Stepped = (Result<Progress, MendError>, PartState, u64);
@@ -64,26 +43,29 @@ fn step<D: Disk, R: RecordLog, L: ledger::Ledger>(
     (told, coordinator.state(), coordinator.count())
 }
 
-/// Opens the log, and makes one step, where so many parts are named.
-fn first_step<L: ledger::Ledger>(
+/// Opens a log, and makes three steps, where so many parts are named.
+fn three_steps<L: ledger::Ledger>(
     alloc: Global,
     blank: Blank,
     disk: &mut MemDisk,
     named: u32,
-) -> Option<Stepped>
+) -> Option<(Stepped, Stepped, Stepped)>
     requires named { named ≤ 62 }
     requires name { blank.name ≡ L.name }
     requires parts { blank.parts ≡ L.parts }
     requires one { L.parts ≡ 1 }
 {
     let mut steps = Steps::<L>::new(blank);
-    let mut coordinator = opened(alloc, disk)?;
-    Some(step(&mut coordinator, disk, named, &mut steps))
+    let mut coordinator = opened(alloc, disk, WINDOW)?;
+    let first = step(&mut coordinator, disk, named, &mut steps);
+    let second = step(&mut coordinator, disk, named, &mut steps);
+    let third = step(&mut coordinator, disk, named, &mut steps);
+    Some((first, second, third))
 }
 
-// Logs, and the entry at which each stops being lawful.
-const LOGS: [(&[Short], Option<u64>); 17] = [
-    (&[], None),
+// Logs, how many parts are named, and how many transactions there are, or the entry at which a log stops being lawful.
+const LOGS: [(&[Short], u32, Result<u64, u64>); 19] = [
+    (&[], 62, Ok(0)),
     (
         &[
             (NEW, 0, 0),
@@ -96,24 +78,34 @@ const LOGS: [(&[Short], Option<u64>); 17] = [
             (COMMITTED, 0, 0),
             (ABORTED, 1, 0),
         ],
-        None,
+        62,
+        Ok(2),
     ),
-    (&[(NEW, 1, 0)], Some(0)),
-    (&[(NEW, 0, 0), (NEW, 0, 0)], Some(1)),
-    (&[(NEW, 0, 0), (NEW, 2, 0), (NEW, 1, 0)], Some(1)),
-    (&[(ADD, 0, 1), (NEW, 0, 0)], Some(0)),
-    (&[(NEW, 0, 0), (ADD, 0, 2), (ADD, 0, 2)], Some(2)),
-    (&[(NEW, 0, 0), (ADD, 0, 63)], Some(1)),
-    (&[(NEW, 0, 0), (ADD, 0, 0)], Some(1)),
-    (&[(NEW, 0, 0), (COMMITTING, 0, 0), (ADD, 0, 1)], Some(2)),
-    (&[(COMMITTING, 0, 0)], Some(0)),
+    (&[(NEW, 1, 0)], 62, Err(0)),
+    (&[(NEW, 0, 0), (NEW, 0, 0)], 62, Err(1)),
+    (&[(NEW, 0, 0), (NEW, 2, 0), (NEW, 1, 0)], 62, Err(1)),
+    (&[(ADD, 0, 1), (NEW, 0, 0)], 62, Err(0)),
+    (&[(NEW, 0, 0), (ADD, 0, 2), (ADD, 0, 2)], 62, Err(2)),
+    (&[(NEW, 0, 0), (ADD, 0, 63)], 62, Err(1)),
+    (&[(NEW, 0, 0), (ADD, 0, 0)], 62, Err(1)),
+    (&[(NEW, 0, 0), (COMMITTING, 0, 0), (ADD, 0, 1)], 62, Err(2)),
+    (&[(COMMITTING, 0, 0)], 62, Err(0)),
     (
         &[(NEW, 0, 0), (COMMITTING, 0, 0), (ABORTING, 0, 0)],
-        Some(2),
+        62,
+        Err(2),
     ),
-    (&[(NEW, 0, 0), (COMMITTED, 0, 0)], Some(1)),
-    (&[(NEW, 0, 0), (COMMITTING, 0, 0), (ABORTED, 0, 0)], Some(2)),
-    (&[(NEW, 0, 0), (ABORTING, 0, 0), (COMMITTED, 0, 0)], Some(2)),
+    (&[(NEW, 0, 0), (COMMITTED, 0, 0)], 62, Err(1)),
+    (
+        &[(NEW, 0, 0), (COMMITTING, 0, 0), (ABORTED, 0, 0)],
+        62,
+        Err(2),
+    ),
+    (
+        &[(NEW, 0, 0), (ABORTING, 0, 0), (COMMITTED, 0, 0)],
+        62,
+        Err(2),
+    ),
     (
         &[
             (NEW, 0, 0),
@@ -121,149 +113,139 @@ const LOGS: [(&[Short], Option<u64>); 17] = [
             (ABORTED, 0, 0),
             (ABORTED, 0, 0),
         ],
-        Some(3),
+        62,
+        Err(3),
     ),
-    (&[(NEW, 0, 0), (7, 0, 0)], Some(1)),
+    (&[(NEW, 0, 0), (7, 0, 0)], 62, Err(1)),
+    // A part without a name is damage. Where two parts are named, the second New of one number would be the first bad record.
+    (
+        &[(NEW, 0, 0), (ADD, 0, 1), (ADD, 0, 2), (NEW, 0, 0)],
+        1,
+        Err(2),
+    ),
+    (&[(NEW, 0, 0), (ADD, 0, 1), (ADD, 0, 2)], 2, Ok(1)),
 ];
 
+// A step over a log that is replayed, or damaged, tells what the one before it told.
 #[test]
 fn logs_stop_being_lawful(rt: HostRuntime) -> Result<(), AllocError> {
-    for (entries, stop) in &LOGS {
-        let mut disk = disk_of(rt.alloc(), entries, &[])?;
-        let told = first_step::<Brand>(rt.alloc(), Blank::new(1), &mut disk, 62);
+    let alloc = rt.alloc();
+    for (entries, named, want) in &LOGS {
+        let bytes = log_file(alloc, entries)?;
+        let mut disk = disk_of(alloc, LOG, bytes.as_slice(), &[])?;
+        let named = (*named).min(62);
+        let told = three_steps::<Brand>(alloc, Blank::new(1), &mut disk, named);
         let total = entries.len() as u64;
-        match stop {
-            Some(place) => {
+        let stepped = match want {
+            Ok(count) => (Ok(Progress { at: total, total }), PartState::Whole, *count),
+            Err(place) => {
                 let damaged = Err(MendError::Damaged { place: *place });
-                let mending = PartState::Mending { at: 0, total };
-                assert_eq!(rt; told, Some((damaged, mending, 0)));
+                (damaged, PartState::Mending { at: 0, total }, 0)
             }
-            None => {
-                assert_eq!(rt; told.map(|t| t.0), Some(Ok(Progress { at: total, total })));
-                assert_eq!(rt; told.map(|t| t.1), Some(PartState::Whole));
-            }
-        }
+        };
+        assert_eq!(rt; told, Some((stepped, stepped, stepped)));
     }
     Ok(())
 }
 
+/// The fortieth record of the second step.
+const PLACE: u8 = 103;
+
+/// 128 new transactions, of which one may come again.
+fn new_transactions(alloc: Global, again: bool) -> Result<Vec<u8>, AllocError> {
+    let mut entries = Vec::new(alloc);
+    for k in 0..128 {
+        let number = if again && k == PLACE { 0 } else { k };
+        entries.push((NEW, number, 0))?;
+    }
+    log_file(alloc, entries.as_slice())
+}
+
+// The part stays where it was. The first read is that of the opening, so the 105th is that of record 103.
 #[test]
-fn part_without_a_name_is_damage(rt: HostRuntime) -> Result<(), AllocError> {
-    // Where two parts are named, the second New of one number is the first bad record.
-    let entries = [(NEW, 0, 0), (ADD, 0, 1), (ADD, 0, 2), (NEW, 0, 0)];
-    let mut disk = disk_of(rt.alloc(), &entries, &[])?;
-    let told = first_step::<Brand>(rt.alloc(), Blank::new(1), &mut disk, 1);
-    assert_eq!(rt;
-        told.map(|t| t.0),
-        Some(Err(MendError::Damaged { place: 2 }))
-    );
+fn coordinator_stays_where_a_step_is_refused(rt: HostRuntime) -> Result<(), AllocError> {
+    let alloc = rt.alloc();
+    let front = PartState::Mending { at: 64, total: 128 };
+    let first = (Ok(Progress { at: 64, total: 128 }), front, 64);
+    let damaged = (Err(MendError::Damaged { place: 103 }), front, 64);
+    let end = Progress {
+        at: 128,
+        total: 128,
+    };
+    let fault = (Err(MendError::Fault), front, 64);
+    for (again, nth, second, third) in [
+        (true, 0, damaged, damaged),
+        (false, 105, fault, (Ok(end), PartState::Whole, 128)),
+    ] {
+        let bytes = new_transactions(alloc, again)?;
+        let fault = FaultAt {
+            file: LOG,
+            op: Op::Read,
+            nth,
+        };
+        let mut disk = disk_of(alloc, LOG, bytes.as_slice(), &[fault])?;
+        let told = three_steps::<Brand>(alloc, Blank::new(1), &mut disk, 62);
+        assert_eq!(rt; told, Some((first, second, third)));
+    }
     Ok(())
 }
 
-#[test]
-fn part_with_a_name_is_replayed(rt: HostRuntime) -> Result<(), AllocError> {
-    let entries = [(NEW, 0, 0), (ADD, 0, 1), (ADD, 0, 2)];
-    let mut disk = disk_of(rt.alloc(), &entries, &[])?;
-    let told = first_step::<Brand>(rt.alloc(), Blank::new(1), &mut disk, 2);
-    assert_eq!(rt; told.map(|t| t.0), Some(Ok(Progress { at: 3, total: 3 })));
-    Ok(())
-}
-
-/// Opens the log, and replays it in one step.
-fn replayed<D: Disk, L: ledger::Ledger>(
+/// Opens a log, and replays it in one step.
+fn replayed<L: ledger::Ledger>(
     alloc: Global,
     blank: Blank,
-    disk: &mut D,
+    disk: &mut MemDisk,
 ) -> Option<Coordinator<Ledger>>
     requires name { blank.name ≡ L.name }
     requires parts { blank.parts ≡ L.parts }
     requires one { L.parts ≡ 1 }
-    ensures backed { IfSome result (λ c. Backed StandsIn (D.image disk.new) c.content) }
 {
     let mut steps = Steps::<L>::new(blank);
-    let mut coordinator = opened(alloc, disk)?;
-    coordinator.mend_step(disk, 62, &mut steps).ok()?;
-    Some(coordinator)
+    reopened(alloc, disk, WINDOW, &mut steps)
 }
+
+// Six transactions of each status.
+const STATUSES: [Short; 14] = [
+    (NEW, 0, 0),
+    (NEW, 1, 0),
+    (ADD, 0, 2),
+    (NEW, 2, 0),
+    (NEW, 3, 0),
+    (NEW, 4, 0),
+    (NEW, 5, 0),
+    (ADD, 0, 1),
+    (ABORTING, 3, 0),
+    (COMMITTING, 0, 0),
+    (COMMITTING, 4, 0),
+    (ABORTED, 3, 0),
+    (COMMITTED, 0, 0),
+    (ABORTING, 5, 0),
+];
 
 #[test]
 fn each_status_is_replayed(rt: HostRuntime) -> Result<(), AllocError> {
-    let entries = [
-        (NEW, 0, 0),
-        (NEW, 1, 0),
-        (ADD, 0, 2),
-        (NEW, 2, 0),
-        (NEW, 3, 0),
-        (NEW, 4, 0),
-        (NEW, 5, 0),
-        (ADD, 0, 1),
-        (ABORTING, 3, 0),
-        (COMMITTING, 0, 0),
-        (COMMITTING, 4, 0),
-        (ABORTED, 3, 0),
-        (COMMITTED, 0, 0),
-        (ABORTING, 5, 0),
-    ];
-    let mut disk = disk_of(rt.alloc(), &entries, &[])?;
-    let Some(told) = replayed::<MemDisk, Brand>(rt.alloc(), Blank::new(1), &mut disk) else {
+    let alloc = rt.alloc();
+    let bytes = log_file(alloc, &STATUSES)?;
+    let mut disk = disk_of(alloc, LOG, bytes.as_slice(), &[])?;
+    let Some(told) = replayed::<Brand>(alloc, Blank::new(1), &mut disk) else {
         panic!(rt; "a lawful log");
     };
     let commit = Some(Decision::Commit);
     let abort = Some(Decision::Abort);
-    for (least, status, decision, parts) in [
-        (0, Some(Status::Committed), commit, 0b110),
-        (1, Some(Status::Open), None, 0),
-        (2, Some(Status::Open), None, 0),
-        (3, Some(Status::Aborted), abort, 0),
-        (4, Some(Status::Committing), commit, 0),
-        (5, Some(Status::Aborting), abort, 0),
-        (6, None, None, 0),
+    for (txn, status, decision, parts) in [
+        (txn(0), Some(Status::Committed), commit, 0b110),
+        (txn(1), Some(Status::Open), None, 0),
+        (txn(2), Some(Status::Open), None, 0),
+        (txn(3), Some(Status::Aborted), abort, 0),
+        (txn(4), Some(Status::Committing), commit, 0),
+        (txn(5), Some(Status::Aborting), abort, 0),
+        (txn(6), None, None, 0),
+        (TxnId { most: 1, least: 0 }, None, None, 0),
     ] {
-        assert_eq!(rt; told.status(txn(least)), status);
-        assert_eq!(rt; told.decision(txn(least)), decision);
-        assert_eq!(rt; told.parts(txn(least)), parts);
+        let seen = (told.status(txn), told.decision(txn), told.parts(txn));
+        assert_eq!(rt; seen, (status, decision, parts), "{txn:?}");
     }
-    assert_eq!(rt; told.status(TxnId { most: 1, least: 0 }), None);
     assert_eq!(rt; (told.count(), told.low()), (6, 1));
     assert_eq!(rt; told.first_undriven(), Some(txn(4)));
-    Ok(())
-}
-
-/// Begins a transaction at the moment 1,000.
-fn begun<L: ledger::Ledger>(
-    alloc: Global,
-    blank: Blank,
-    disk: &mut MemDisk,
-    timeout: u64,
-) -> Option<Result<TxnId, CoordError>>
-    requires name { blank.name ≡ L.name }
-    requires parts { blank.parts ≡ L.parts }
-    requires one { L.parts ≡ 1 }
-{
-    let mut coordinator = replayed::<MemDisk, L>(alloc, blank, disk)?;
-    let PartState::Whole = coordinator.state() else {
-        return None;
-    };
-    Some(coordinator.begin(disk, 1_000, timeout))
-}
-
-#[test]
-fn timeouts_at_and_outside_their_range(rt: HostRuntime) -> Result<(), AllocError> {
-    let first = Ok(txn(0));
-    let bad = Err(CoordError::BadTimeout);
-    // The deadlines are 1,001 and 86,401,000.
-    let wants: [(u64, Result<TxnId, CoordError>, &[u8]); 5] = [
-        (0, bad, &[]),
-        (1, first, &[0, 0, 0, 0, 0, 0, 3, 0xe9]),
-        (86_400_000, first, &[0, 0, 0, 0, 5, 0x26, 0x5f, 0xe8]),
-        (86_400_001, bad, &[]),
-        (u64::MAX, bad, &[]),
-    ];
-    for (timeout, want, deadline) in wants {
-        let mut disk = MemDisk::new(rt.alloc(), &[])?;
-        let told = begun::<Brand>(rt.alloc(), Blank::new(1), &mut disk, timeout);
-        assert_eq!(rt; told, Some(want));
-        assert_eq!(rt; disk.file_bytes(LOG).get(25..).unwrap_or(&[]), deadline);
-    }
     Ok(())
 }

@@ -1,38 +1,27 @@
-//! Topics over small ledgers: what their replay tells, and how far reads go.
-ghost use Rattle.std.specs.Prelude.{◌≡◌, IfSome, IsUtf8, length, true};
+//! Topics: what is replayed of small ledgers, and steps of a replay that are refused at their fortieth record.
+ghost use Rattle.std.specs.Prelude.{◌≡◌, IfSome};
 ghost use Rattle.txn_base.specs.Content.{Backed, looked_at};
-ghost use Rattle.txn_base.specs.Limits.{InRange};
 ghost use Rattle.txn_ledger.specs.Ledger.{StandsIn};
 
+use super::files::{Short, TOPIC, disk_of, topic_file, txn};
 use std::alloc::{AllocError, Global};
 use std::marker::Brand;
 use std::sync::ledger::{self, Blank};
-use txn_base::{Bytes, Decision, Disk, Limits, MendError, PartState, Progress, Steps, TxnId};
+use txn_base::{Decision, Disk, Limits, MendError, PartState, Progress, Steps};
 use txn_buffer::Topic;
-use txn_fixtures::{Short, TOPIC, disk_with, topic_file};
 use txn_ledger::{Ledger, RecordLog};
-use txn_memdisk::MemDisk;
+use txn_memdisk::{FaultAt, MemDisk, Op};
 
-const PLAIN: u8 = 1;
+pub const PLAIN: u8 = 1;
 
-const INSIDE: u8 = 2;
+pub const INSIDE: u8 = 2;
 
-const COMMIT: u8 = 3;
+pub const COMMIT: u8 = 3;
 
 const ABORT: u8 = 4;
 
-fn txn(least: u64) -> TxnId {
-    TxnId { most: 0, least }
-}
-
-/// A disk on which these entries are the topic's ledger.
-fn disk_of(alloc: Global, entries: &[Short]) -> Result<MemDisk, AllocError> {
-    let bytes = topic_file(alloc, entries)?;
-    disk_with(alloc, bytes.as_slice(), &[])
-}
-
 /// Opens the ledger.
-fn opened<D: Disk>(alloc: Global, disk: &mut D) -> Option<Topic<Ledger>>
+pub fn opened<D: Disk>(alloc: Global, disk: &mut D) -> Option<Topic<Ledger>>
     ensures standing { IfSome result (λ t. t.content.standing ≡ looked_at → ⊥) }
     ensures backed { IfSome result (λ t. Backed StandsIn (D.image disk.new) t.content) }
 {
@@ -40,26 +29,64 @@ fn opened<D: Disk>(alloc: Global, disk: &mut D) -> Option<Topic<Ledger>>
     Topic::over(alloc, log, 1, &Limits::standard()).ok()
 }
 
-/// What the first step of the replay told, how far the topic is then, and its limit.
+/// What a step of the replay told, how far the topic is then, and its limit.
 type Stepped = (Result<Progress, MendError>, PartState, u64);
 
-fn first_step<L: ledger::Ledger>(alloc: Global, blank: Blank, disk: &mut MemDisk) -> Option<Stepped>
+fn step<D: Disk, R: RecordLog, L: ledger::Ledger>(
+    topic: &mut Topic<R>,
+    disk: &mut D,
+    steps: &mut Steps<L>,
+) -> Stepped
+    requires standing { topic.old.content.standing ≡ looked_at → ⊥ }
+    requires backed { Backed R.stands (D.image disk.old) topic.old.content }
+    ensures standing { topic.new.content.standing ≡ looked_at → ⊥ }
+    ensures backed { Backed R.stands (D.image disk.new) topic.new.content }
+{
+    let told = topic.mend_step(disk, steps);
+    (told, topic.state(), topic.limit())
+}
+
+/// The place of the one message that a read from place 63 on gives, at most one.
+fn read_63<D: Disk, R: RecordLog, L: ledger::Ledger>(
+    topic: &Topic<R>,
+    disk: &mut D,
+    steps: &mut Steps<L>,
+) -> Option<u64>
+    requires { Backed R.stands (D.image disk.old) topic.now.content }
+    ensures { Backed R.stands (D.image disk.new) topic.now.content }
+{
+    let messages = topic.read(disk, 63, 1, steps).ok()?;
+    let first = messages.as_slice().first()?;
+    Some(first.place)
+}
+
+type Told = (Stepped, Stepped, Option<Decision>, Option<u64>, Stepped);
+
+/// Opens a ledger, and makes three steps, with a look at the topic after the second.
+fn three_steps<L: ledger::Ledger>(alloc: Global, blank: Blank, disk: &mut MemDisk) -> Option<Told>
     requires name { blank.name ≡ L.name }
     requires parts { blank.parts ≡ L.parts }
     requires one { L.parts ≡ 1 }
 {
     let mut steps = Steps::<L>::new(blank);
     let mut topic = opened(alloc, disk)?;
-    let told = topic.mend_step(disk, &mut steps);
-    Some((told, topic.state(), topic.limit()))
+    let first = step(&mut topic, disk, &mut steps);
+    let second = step(&mut topic, disk, &mut steps);
+    let marker = topic.marker(txn(0));
+    let read = read_63(&topic, disk, &mut steps);
+    let third = step(&mut topic, disk, &mut steps);
+    Some((first, second, marker, read, third))
 }
 
-// Ledgers, and the entry at which each stops being lawful; or the limit of one that is lawful.
-const LEDGERS: [(&[Short], Result<u64, u64>); 12] = [
-    (&[], Ok(0)),
-    (&[(PLAIN, 0, b'a')], Ok(1)),
-    (&[(INSIDE, 0, b'a'), (PLAIN, 0, b'b')], Ok(0)),
-    (&[(COMMIT, 0, 0), (ABORT, 1, 0), (PLAIN, 0, b'a')], Ok(3)),
+// Ledgers, and the limit of each, and how the first transaction ended there; or the entry at which it stops being lawful.
+const LEDGERS: [(&[Short], Result<(u64, Option<Decision>), u64>); 12] = [
+    (&[], Ok((0, None))),
+    (&[(PLAIN, 0, b'a')], Ok((1, None))),
+    (&[(INSIDE, 0, b'a'), (PLAIN, 0, b'b')], Ok((0, None))),
+    (
+        &[(COMMIT, 0, 0), (ABORT, 1, 0), (PLAIN, 0, b'a')],
+        Ok((3, Some(Decision::Commit))),
+    ),
     (
         &[
             (PLAIN, 0, b'a'),
@@ -69,7 +96,7 @@ const LEDGERS: [(&[Short], Result<u64, u64>); 12] = [
             (PLAIN, 0, b'd'),
             (INSIDE, 1, b'e'),
         ],
-        Ok(2),
+        Ok((2, Some(Decision::Abort))),
     ),
     (
         &[
@@ -78,7 +105,7 @@ const LEDGERS: [(&[Short], Result<u64, u64>); 12] = [
             (COMMIT, 0, 0),
             (ABORT, 1, 0),
         ],
-        Ok(4),
+        Ok((4, Some(Decision::Commit))),
     ),
     (
         &[(INSIDE, 0, b'a'), (COMMIT, 0, 0), (INSIDE, 0, b'b')],
@@ -94,142 +121,76 @@ const LEDGERS: [(&[Short], Result<u64, u64>); 12] = [
     (&[(PLAIN, 0, b'a'), (5, 0, 0)], Err(1)),
 ];
 
+// A step over a ledger that is replayed, or damaged, tells what the one before it told.
 #[test]
 fn ledgers_stop_being_lawful(rt: HostRuntime) -> Result<(), AllocError> {
+    let alloc = rt.alloc();
     for (entries, want) in &LEDGERS {
-        let mut disk = disk_of(rt.alloc(), entries)?;
-        let told = first_step::<Brand>(rt.alloc(), Blank::new(1), &mut disk);
+        let bytes = topic_file(alloc, entries)?;
+        let mut disk = disk_of(alloc, TOPIC, bytes.as_slice(), &[])?;
+        let told = three_steps::<Brand>(alloc, Blank::new(1), &mut disk);
         let total = entries.len() as u64;
-        let stepped = match want {
-            Ok(limit) => (Ok(Progress { at: total, total }), PartState::Whole, *limit),
+        let (stepped, marker) = match want {
+            Ok((limit, marker)) => {
+                let end = Progress { at: total, total };
+                ((Ok(end), PartState::Whole, *limit), *marker)
+            }
             Err(place) => {
                 let damaged = Err(MendError::Damaged { place: *place });
-                (damaged, PartState::Mending { at: 0, total }, 0)
+                ((damaged, PartState::Mending { at: 0, total }, 0), None)
             }
         };
-        assert_eq!(rt; told, Some(stepped));
+        assert_eq!(rt; told, Some((stepped, stepped, marker, None, stepped)));
     }
     Ok(())
 }
 
-/// Opens the ledger, and replays it in one step.
-fn replayed<D: Disk, L: ledger::Ledger>(
-    alloc: Global,
-    disk: &mut D,
-    steps: &mut Steps<L>,
-) -> Option<Topic<Ledger>>
-    ensures whole { IfSome result (λ t. t.whole ≡ true) }
-    ensures in_range { IfSome result (λ t. InRange t.limits) }
-    ensures backed { IfSome result (λ t. Backed StandsIn (D.image disk.new) t.content) }
-{
-    let mut topic = opened(alloc, disk)?;
-    topic.mend_step(disk, steps).ok()?;
-    let PartState::Whole = topic.state() else {
-        return None;
-    };
-    Some(topic)
-}
+/// The fortieth record of the second step.
+const PLACE: u8 = 103;
 
-/// The limit, and the places and bodies that a read of all gives.
-fn read_all<D: Disk, R: RecordLog, L: ledger::Ledger>(
-    alloc: Global,
-    topic: &Topic<R>,
-    disk: &mut D,
-    steps: &mut Steps<L>,
-) -> Option<String>
-    requires { Backed R.stands (D.image disk.old) topic.now.content }
-    ensures { Backed R.stands (D.image disk.new) topic.now.content }
-{
-    let messages = topic.read(disk, 0, 10, steps).ok()?;
-    let mut told = format!(in alloc; "{}", topic.limit()).ok()?;
-    for message in messages.as_slice() {
-        let one = format!(in alloc; " {}{}", message.place, message.body.as_str()).ok()?;
-        told.push_str(one.as_str()).ok()?;
+/// 128 messages, all but one of them plain, and the marker of the first transaction at place 102. Its message stands at
+/// 103, where it isn't allowed, or at 101.
+fn messages(alloc: Global, behind: bool) -> Result<Vec<u8>, AllocError> {
+    let place = if behind { PLACE } else { 101 };
+    let mut entries = Vec::new(alloc);
+    for k in 0..128 {
+        let kind = if k == 102 {
+            COMMIT
+        } else if k == place {
+            INSIDE
+        } else {
+            PLAIN
+        };
+        entries.push((kind, 0, b'a'))?;
     }
-    Some(told)
+    topic_file(alloc, entries.as_slice())
 }
 
-/// Commits a transaction in a topic, where it isn't aborted there.
-fn commit<D: Disk, R: RecordLog>(topic: &mut Topic<R>, disk: &mut D, txn: TxnId) -> Option<u64>
-    requires whole { topic.old.whole ≡ true }
-    requires backed { Backed R.stands (D.image disk.old) topic.old.content }
-    ensures whole { IfSome result (λ length. topic.new.whole ≡ true) }
-    ensures in_range { topic.new.limits ≡ topic.old.limits }
-    ensures backed { Backed R.stands (D.image disk.new) topic.new.content }
-{
-    topic.reserve_end().ok()?;
-    if topic.marker(txn) == Some(Decision::Abort) {
-        return None;
-    }
-    topic.finish(disk, txn, Decision::Commit).ok()?;
-    Some(topic.len())
-}
-
-fn body(alloc: Global) -> Option<Bytes>
-    ensures text { IfSome result (λ b. IsUtf8 b.bytes) }
-    ensures size { IfSome result (λ b. length b.bytes ≡ 1) }
-{
-    Bytes::from_slice(alloc, "c".as_bytes()).ok()
-}
-
-/// What is read before and after a plain message is published and the first transaction is committed; the place of the
-/// message, and the length then.
-fn ends<L: ledger::Ledger>(
-    alloc: Global,
-    blank: Blank,
-    disk: &mut MemDisk,
-) -> Option<(String, u64, u64, String)>
-    requires name { blank.name ≡ L.name }
-    requires parts { blank.parts ≡ L.parts }
-    requires one { L.parts ≡ 1 }
-{
-    let mut steps = Steps::<L>::new(blank);
-    let mut topic = replayed(alloc, disk, &mut steps)?;
-    let before = read_all(alloc, &topic, disk, &mut steps)?;
-    let place = topic.publish(disk, &[body(alloc)?]).ok()?;
-    let length = commit(&mut topic, disk, txn(0))?;
-    let after = read_all(alloc, &topic, disk, &mut steps)?;
-    Some((before, place, length, after))
-}
-
-// A marker has a place of its own.
+// The topic stays where it was. The first read is that of the opening, so the 105th is that of record 103.
 #[test]
-fn earliest_open_transaction_bounds_the_read_position(rt: HostRuntime) -> Result<(), AllocError> {
-    let entries = [(INSIDE, 0, b'a'), (INSIDE, 1, b'b'), (COMMIT, 1, 0)];
-    let mut disk = disk_of(rt.alloc(), &entries)?;
-    let told = ends::<Brand>(rt.alloc(), Blank::new(1), &mut disk);
-    let Some((before, place, length, after)) = told else {
-        panic!(rt; "a lawful ledger");
+fn topic_stays_where_a_step_is_refused(rt: HostRuntime) -> Result<(), AllocError> {
+    let alloc = rt.alloc();
+    let front = PartState::Mending { at: 64, total: 128 };
+    let first = (Ok(Progress { at: 64, total: 128 }), front, 64);
+    let damaged = (Err(MendError::Damaged { place: 103 }), front, 64);
+    let end = Progress {
+        at: 128,
+        total: 128,
     };
-    assert_eq!(rt; before.as_str(), "0");
-    assert_eq!(rt; (place, length), (3, 5));
-    assert_eq!(rt; after.as_str(), "5 0a 1b 3c");
-    Ok(())
-}
-
-/// Commits the first transaction twice, and tells the lengths.
-fn commits_twice<L: ledger::Ledger>(
-    alloc: Global,
-    blank: Blank,
-    disk: &mut MemDisk,
-) -> Option<(u64, u64)>
-    requires name { blank.name ≡ L.name }
-    requires parts { blank.parts ≡ L.parts }
-    requires one { L.parts ≡ 1 }
-{
-    let mut steps = Steps::<L>::new(blank);
-    let mut topic = replayed(alloc, disk, &mut steps)?;
-    let first = commit(&mut topic, disk, txn(0))?;
-    let second = commit(&mut topic, disk, txn(0))?;
-    Some((first, second))
-}
-
-#[test]
-fn second_finish_writes_nothing(rt: HostRuntime) -> Result<(), AllocError> {
-    let mut disk = disk_of(rt.alloc(), &[(INSIDE, 0, b'a')])?;
-    let told = commits_twice::<Brand>(rt.alloc(), Blank::new(1), &mut disk);
-    assert_eq!(rt; told, Some((2, 2)));
-    let want = topic_file(rt.alloc(), &[(INSIDE, 0, b'a'), (COMMIT, 0, 0)])?;
-    assert_eq!(rt; disk.file_bytes(TOPIC), want.as_slice());
+    let fault = (Err(MendError::Fault), front, 64);
+    for (behind, nth, second, third) in [
+        (true, 0, damaged, damaged),
+        (false, 105, fault, (Ok(end), PartState::Whole, 128)),
+    ] {
+        let bytes = messages(alloc, behind)?;
+        let fault = FaultAt {
+            file: TOPIC,
+            op: Op::Read,
+            nth,
+        };
+        let mut disk = disk_of(alloc, TOPIC, bytes.as_slice(), &[fault])?;
+        let told = three_steps::<Brand>(alloc, Blank::new(1), &mut disk);
+        assert_eq!(rt; told, Some((first, second, None, Some(63), third)));
+    }
     Ok(())
 }

@@ -1,4 +1,4 @@
 use Rattle.txn_tests.proofs.tests.topics.ledgers_stop_being_lawful.Given as goal
 
-abbrev pub ghosts-first_step : goal.ghosts-first_step
-ghosts-first_step g a = record { name = a.blank.name; parts = a.blank.parts }
+abbrev pub ghosts-three_steps : goal.ghosts-three_steps
+ghosts-three_steps a = record { name = a.blank.name; parts = a.blank.parts }

@@ -1,4 +1,0 @@
-use Rattle.txn_buffer.proofs.tests.aborted_messages_are_not.Given as goal
-
-abbrev pub ghosts-run : goal.ghosts-run
-ghosts-run g a = record { name = a.blank.name; parts = a.blank.parts }

@@ -1,0 +1,4 @@
+use Rattle.txn_tests.proofs.tests.ends.committed_messages_are_visible_and_aborted_ones_are_not.Given as goal
+
+abbrev pub ghosts-ends : goal.ghosts-ends
+ghosts-ends a = record { name = a.blank.name; parts = a.blank.parts }
