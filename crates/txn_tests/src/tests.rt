@@ -7,4 +7,5 @@ mod locks;
 mod logs;
 mod memory;
 mod models;
+mod openings;
 mod topics;

@@ -3,12 +3,12 @@ ghost use Rattle.std.specs.Prelude.{◌≡◌, All, true, IfOk};
 ghost use Rattle.txn_base.specs.Names.{is_topic_name};
 ghost use Rattle.txn_model.specs.Names.{NamesLawful};
 
+use super::files::{Short, log_file, topic_file};
 use std::alloc::{AllocError, Global};
 use std::marker::Brand;
 use std::sync::ledger::{self, Blank};
 use txn_base::{FileId, Limits, Request, Steps, Text, TxnId};
 use txn_engine::Engine;
-use txn_fixtures::{Short, log_file, topic_file};
 use txn_memdisk::MemDisk;
 
 /// The names of two topics.
