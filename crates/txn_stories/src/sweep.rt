@@ -111,8 +111,11 @@ fn fails_once(
             let file = fault.file.part;
             let op = fault.op;
             let nth = fault.nth;
+            let ending = seen.ending.as_str();
             return Err(Wrong::Came {
-                what: format!(in alloc; "fault part {file} {op:?} {nth}, crash {choice:?}")?,
+                what: format!(in alloc;
+                    "fault part {file} {op:?} {nth}, crash {choice:?}, status {ending}"
+                )?,
                 want: told(alloc, &allowed.without)?,
                 came: told(alloc, &seen.put)?,
             });

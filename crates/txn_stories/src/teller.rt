@@ -252,9 +252,12 @@ impl Teller {
     /// Does what is asked for, and compares.
     pub fn finish(&mut self) -> Result<(), Wrong> {
         match self.asked {
-            Asked::Nothing => {}
-            Asked::Run => self.finish_run()?,
             Asked::EachFault => self.finish_look()?,
+            Asked::Run if self.also.is_empty() => self.finish_run()?,
+            Asked::Nothing
+                if self.script.lines.is_empty() && self.want.is_empty() && self.also.is_empty() =>
+                {}
+            _ => return Err(Wrong::Line("a line belongs to no run")),
         }
         if let Some(page) = &mut self.page {
             page.flush()?;
