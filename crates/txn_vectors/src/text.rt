@@ -1,37 +1,22 @@
 //! The words of a line, and the bytes that a text stands for.
 use crate::wrong::Wrong;
 use std::alloc::{AllocError, Global};
-use std::mem;
 
-/// The words of a line. A word with spaces in it, or with nothing, stands in quotes.
+/// The words of a line, with spaces between them.
 pub fn words_of(alloc: Global, line: &str) -> Result<Vec<String>, Wrong> {
     let mut words = Vec::new(alloc);
-    let mut word = String::new(alloc);
-    let mut is_quoted = false;
-    let mut is_begun = false;
-    for c in line.chars() {
-        if c == '"' {
-            is_quoted = !is_quoted;
-            is_begun = true;
-        } else if c == ' ' && !is_quoted {
-            if is_begun {
-                words.push(mem::replace(&mut word, String::new(alloc)))?;
-            }
-            is_begun = false;
-        } else {
-            word.push(c)?;
-            is_begun = true;
-        }
-    }
-    if is_begun {
-        words.push(word)?;
+    for word in line.split_whitespace() {
+        words.push(String::from_str(alloc, word)?)?;
     }
     Ok(words)
 }
 
 /// The first word of a line, and the rest behind the space.
 pub fn first_word(line: &str) -> (&str, &str) {
-    line.split_once(' ').unwrap_or((line, ""))
+    match line.split_once(' ') {
+        Some(halves) => halves,
+        None => (line, ""),
+    }
 }
 
 /// A number.
@@ -45,35 +30,33 @@ pub fn hex_byte(word: &str) -> Result<u8, Wrong> {
     u8::from_str_radix(word, 16).map_err(|_| Wrong::Line("a byte in two digits is wanted"))
 }
 
-/// The bytes that a text stands for. `${m*3}` is mmm, and `${c3 a9}` two bytes.
+/// The bytes that a text stands for. `${m*3}` is mmm, and `${c3}` this byte.
 pub fn text_bytes(alloc: Global, text: &str) -> Result<Vec<u8>, Wrong> {
     let mut out = Vec::new(alloc);
     for (i, part) in text.split("${").enumerate() {
-        if i == 0 {
-            out.extend_from_slice(part.as_bytes())?;
-        } else {
-            let Some((inside, after)) = part.split_once('}') else {
-                return Err(Wrong::Line("${ has no }"));
-            };
-            put_inside(inside, &mut out)?;
-            out.extend_from_slice(after.as_bytes())?;
+        match part.split_once('}') {
+            Some((inside, after)) if i > 0 => {
+                put_inside(inside, &mut out)?;
+                out.extend_from_slice(after.as_bytes())?;
+            }
+            _ => out.extend_from_slice(part.as_bytes())?,
         }
     }
     Ok(out)
 }
 
 fn put_inside(inside: &str, out: &mut Vec<u8>) -> Result<(), Wrong> {
-    match inside.rsplit_once('*') {
-        Some((text, count)) => {
-            for _ in 0..number(count)? {
-                out.extend_from_slice(text.as_bytes())?;
-            }
-        }
-        None => {
-            for word in inside.split_whitespace() {
-                out.push(hex_byte(word)?)?;
-            }
-        }
+    match inside.split_once('*') {
+        Some((text, count)) => put_times(text.as_bytes(), number(count)?, out)?,
+        None => out.push(hex_byte(inside)?)?,
+    }
+    Ok(())
+}
+
+/// Puts bytes so many times.
+fn put_times(bytes: &[u8], count: u64, out: &mut Vec<u8>) -> Result<(), AllocError> {
+    for _ in 0..count {
+        out.extend_from_slice(bytes)?;
     }
     Ok(())
 }

@@ -92,7 +92,7 @@ fn commits_twice<L: ledger::Ledger>(alloc: Global, blank: Blank, disk: &mut MemD
     Some((before, place, first, second, after))
 }
 
-// Ledgers of two entries and of three; the earliest open transaction bounds what is read. A marker has a place of its own.
+// Ledgers, each as it is and as it is left; the earliest open transaction bounds what is read. A marker has a place of its own.
 const BOUNDED: [Short; 3] = [(INSIDE, 0, b'a'), (INSIDE, 1, b'b'), (COMMIT, 1, 0)];
 
 const BOUNDED_ENDED: [Short; 5] = [

@@ -204,7 +204,7 @@ fn replayed<L: ledger::Ledger>(
     reopened(alloc, disk, WINDOW, &mut steps)
 }
 
-// Six transactions of each status.
+// Six transactions: committed, open, open, aborted, committing, aborting.
 const STATUSES: [Short; 14] = [
     (NEW, 0, 0),
     (NEW, 1, 0),
