@@ -207,7 +207,7 @@ class Step:
         elif kind == "status" and self.kind == "run" and not self.status:
             self.status = (number, rest)
         elif kind == "why" and self.kind == "run" and not self.why:
-            self.why = (number, bytes_of(rest))
+            self.why = (number, rest.encode())
         else:
             return False
         return True
