@@ -1,0 +1,15 @@
+pub mod Alone
+pub mod Stops
+pub mod Changes
+pub mod Asked
+pub mod Telling
+pub mod Keeping
+pub mod Following
+pub mod Marked
+pub mod Worlds
+pub mod Moves
+pub mod Allowing
+pub mod TableSteps
+pub mod Led
+pub mod Driven
+pub mod Lines

@@ -1,0 +1,5 @@
+pub mod Together
+pub mod Steps
+pub mod Kept
+pub mod Worlds
+pub mod Tables
