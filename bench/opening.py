@@ -1,10 +1,13 @@
 #!/usr/bin/env python3
 """Opening a ledger of a million small records: a run over empty input, against one pass over the same file in pieces of
-64 KB. Five rounds, the two by turns, and the median of each; the file is in the system's cache.
-Usage: opening.py [PROGRAM [FOLDER]]   (PROGRAM as `rt run` left it, unless another is named)"""
+64 KB, and against another program, where one is named. Five rounds, all by turns, and the median of each; the file is in the
+system's cache. The system calls of one opening each are counted by strace, where that is there.
+Usage: opening.py [PROGRAM [FOLDER [BEFORE]]]   (PROGRAM as `rt run` left it, unless another is named)"""
 import os
+import shutil
 import statistics
 import subprocess
+import sys
 import time
 
 from behind_pipes import LEDGER, PROGRAM, folder
@@ -26,12 +29,20 @@ def write(path):
         os.fsync(file.fileno())
 
 
-def opened(top):
+def opened(program, top, *tracer):
     begin = time.perf_counter()
-    done = subprocess.run([PROGRAM, top, "lines", "orders"], input=b"", capture_output=True)
+    done = subprocess.run([*tracer, program, top, "lines", "orders"], input=b"", capture_output=True)
     took = time.perf_counter() - begin
     assert (done.returncode, done.stdout, done.stderr) == (0, b"", b""), done
     return took
+
+
+def reads(program, top):
+    """How many reads of files one opening makes."""
+    log = f"{top}.trace"
+    opened(program, top, "strace", "-f", "-o", log, "-e", "trace=pread64")
+    with open(log) as lines:
+        return sum("pread64(" in line for line in lines)
 
 
 def passed(path):
@@ -43,14 +54,28 @@ def passed(path):
 
 
 def main():
+    programs = {"opening": PROGRAM}
+    if len(sys.argv) > 3:
+        programs["opening, the program before"] = os.path.abspath(sys.argv[3])
     with folder() as top:
-        path = f"{top}/{LEDGER}"
+        data = f"{top}/data"
+        os.mkdir(data)
+        path = f"{data}/{LEDGER}"
         write(path)
-        rounds = [(opened(top), passed(path)) for _ in range(ROUNDS)]
-        opening, reading = (statistics.median(column) for column in zip(*rounds))
+        ways = {name: lambda program=program: opened(program, data) for name, program in programs.items()}
+        ways["one pass in pieces of 64 KB"] = lambda: passed(path)
+        rounds = [{name: way() for name, way in ways.items()} for _ in range(ROUNDS)]
         print(f"{RECORDS} records, {os.path.getsize(path)} bytes")
-        print(f"opening: {opening:.3f} s (from {min(r[0] for r in rounds):.3f} to {max(r[0] for r in rounds):.3f})")
-        print(f"one pass in pieces of 64 KB: {reading:.3f} s (from {min(r[1] for r in rounds):.3f} to {max(r[1] for r in rounds):.3f})")
+        for name in ways:
+            found = [took[name] for took in rounds]
+            print(f"{name}: {statistics.median(found):.3f} s (from {min(found):.3f} to {max(found):.3f})")
+        if len(programs) > 1:
+            after, before = programs
+            ratios = [took[after] / took[before] for took in rounds]
+            print(f"ratio: {statistics.median(ratios):.2f} (from {min(ratios):.2f} to {max(ratios):.2f})")
+        if shutil.which("strace"):
+            for name, program in programs.items():
+                print(f"{name}: {reads(program, data)} reads of files")
 
 
 main()

@@ -1,3 +1,1 @@
-pub mod Counts
 pub mod CommandLine
-pub mod Paths

@@ -6,22 +6,12 @@ ghost use Rattle.pulsar_txn.specs.CommandLine.{given};
 ghost use Rattle.txn_base.specs.declared.usage.Usage.{Usage};
 ghost use Rattle.txn_run.specs.declared.status.RunStatus.TheVariants as status;
 
-mod calls;
-mod clock;
 mod command_line;
-mod counts;
-mod disk;
-mod file;
-mod files;
-mod folder;
-mod streams;
 
-use crate::clock::SystemClock;
 use crate::command_line::{split, words_of};
-use crate::disk::FolderDisk;
-use crate::streams::{Input, Output};
 use std::process::ExitCode;
 use txn_base::{Limits, Text, Usage};
+use txn_files::{FolderDisk, Input, OPEN_FILES, Output, SystemClock};
 use txn_run::{RunStatus, run};
 
 fn main(rt: HostRuntime) -> ExitCode {
@@ -44,9 +34,11 @@ fn answer(rt: HostRuntime, words: &[Text]) -> RunStatus
     let Ok(path) = folder.clone() else {
         return RunStatus::NoMemory;
     };
-    let mut disk = FolderDisk::new(rt.alloc(), rt, path);
-    let mut input = Input::new(rt.stdin());
-    let mut output = Output::new(rt.stdout());
+    let Ok(mut disk) = FolderDisk::new(rt.alloc(), rt, path, OPEN_FILES) else {
+        return RunStatus::NoMemory;
+    };
+    let mut input = Input::new(rt.alloc(), rt, rt.stdin());
+    let mut output = Output::new(rt.alloc(), rt, rt.stdout());
     let mut clock = SystemClock::new(rt);
     run(
         rt.alloc(),

@@ -11,7 +11,7 @@ pub struct Counts {
 }
 
 impl Counts {
-    ghost use Rattle.pulsar_txn.specs.Counts.{part_count};
+    ghost use Rattle.txn_files.specs.Counts.{part_count};
 
     pub fn new() -> Self {
         Counts {

@@ -1,11 +1,12 @@
 //! A disk of real files in a folder. It tells nothing of what it holds.
 ghost use Rattle.std.specs.Prelude.{[]};
-ghost use Rattle.pulsar_txn.specs.Counts.{part_count};
+ghost use Rattle.txn_files.specs.Counts.{part_count};
 
 use crate::calls::Calls;
 use crate::counts::Counts;
+use crate::file::Purpose;
 use crate::files::{FolderFiles, MAX_SIZE};
-use std::alloc::Global;
+use std::alloc::{AllocError, Global};
 use std::fs::{File, Files};
 use txn_base::{Disk, Failed, FileId, Text};
 
@@ -18,13 +19,29 @@ pub struct FolderDisk<R: Files<File = File> + Drop> {
 }
 
 impl<R: Files<File = File> + Drop> FolderDisk<R> {
-    /// Over the folder at this path, which the first call looks at.
-    pub fn new(alloc: Global, files: R, path: Text) -> Self {
-        FolderDisk {
-            files: FolderFiles::new(alloc, files, path),
+    /// Over the folder at this path, which the first call looks at and locks. At most `bound` of its files are open at a
+    /// time, and one at least.
+    pub fn new(alloc: Global, files: R, path: Text, bound: usize) -> Result<Self, AllocError> {
+        Ok(FolderDisk {
+            files: FolderFiles::new(alloc, files, path, Purpose::Writing, bound)?,
             counts: Counts::new(),
             calls: Calls { all: 0, writes: 0 },
-        }
+        })
+    }
+
+    /// For reading alone. It locks nothing and makes nothing, and each write, change of size and sync fails. So what it
+    /// reads is only what stays as it is: a copy, or a folder that no program writes to.
+    pub fn for_reading(
+        alloc: Global,
+        files: R,
+        path: Text,
+        bound: usize,
+    ) -> Result<Self, AllocError> {
+        Ok(FolderDisk {
+            files: FolderFiles::new(alloc, files, path, Purpose::Reading, bound)?,
+            counts: Counts::new(),
+            calls: Calls { all: 0, writes: 0 },
+        })
     }
 }
 

@@ -1,6 +1,6 @@
-//! The real files of a disk. They stay open.
+//! One real file of a disk.
 ghost use Rattle.std.specs.Prelude.{◌≡◌, IfOk, string_bytes};
-ghost use Rattle.pulsar_txn.specs.Paths.{path_of};
+ghost use Rattle.txn_files.specs.Paths.{path_of};
 
 use std::alloc::{AllocError, Global};
 use std::fs::{File, Files, OpenOptions};
@@ -8,13 +8,15 @@ use std::io;
 use std::io::ErrorKind;
 use txn_base::{FileId, FileName};
 
-/// A file that was opened. After a sync that failed it is broken: a later sync can answer Ok for bytes that the system
-/// has dropped, so no call on it is answered Ok until the program is started again.
-#[derive(Drop)]
-pub struct Opened {
-    pub id: FileId,
-    pub file: File,
-    pub broken: bool,
+/// What a file is opened for.
+#[derive(Clone, Copy, PartialEq, Eq)]
+pub enum Purpose {
+    /// Reads alone.
+    Reading,
+    /// Reads and writes, where it is there.
+    Writing,
+    /// Reads and writes. It is made where it isn't there.
+    Making,
 }
 
 /// The path of a file: its name in the folder.
@@ -33,24 +35,19 @@ pub fn open<R: Files<File = File>>(
     files: &R,
     folder: &str,
     id: FileId,
-    make: bool,
+    purpose: Purpose,
 ) -> io::Result<Option<File>> {
     let Ok(path) = path_of(alloc, folder, id) else {
         return Err(ErrorKind::OutOfMemory.into());
     };
     let opened = OpenOptions::new()
         .read(true)
-        .write(true)
-        .create(make)
+        .write(purpose != Purpose::Reading)
+        .create(purpose == Purpose::Making)
         .open(files, path.as_str());
     match opened {
         Ok(file) => Ok(Some(file)),
-        Err(e) if e.kind() == ErrorKind::NotFound && !make => Ok(None),
+        Err(e) if e.kind() == ErrorKind::NotFound && purpose != Purpose::Making => Ok(None),
         Err(e) => Err(e),
     }
-}
-
-/// Where a file stands among those that are open.
-pub fn position(opened: &[Opened], id: FileId) -> Option<usize> {
-    opened.iter().position(|o| o.id == id)
 }
