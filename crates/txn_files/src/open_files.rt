@@ -41,7 +41,7 @@ impl OpenFiles {
 
     /// An error where the file is broken.
     pub fn test(&self, id: FileId) -> io::Result<()> {
-        if self.all_broken || self.broken.contains(&key(id)) {
+        if self.all_broken || (!self.broken.is_empty() && self.broken.contains(&key(id))) {
             return Err(ErrorKind::Other.into());
         }
         Ok(())
