@@ -5,11 +5,13 @@ mod every;
 mod random;
 mod reading;
 mod rules;
+mod skeletons;
 mod start;
 mod walk;
 mod worked;
 
 use crate::every::{Front, count_lists};
+use crate::skeletons::skeletons_of_each_entry;
 use crate::walk::walk;
 use crate::worked::core_skips_marker_without_decision;
 use std::process::ExitCode;
@@ -29,6 +31,11 @@ fn report(rt: HostRuntime) -> Result<(), std::io::Error> {
             lengths.log, lengths.part
         )?,
         Err(_) => println!(rt; "core_skips_marker_without_decision: no memory")?,
+    }
+    match skeletons_of_each_entry(rt.alloc()) {
+        Ok(true) => println!(rt; "skeletons_of_each_entry: as they should be")?,
+        Ok(false) => println!(rt; "skeletons_of_each_entry: otherwise")?,
+        Err(_) => println!(rt; "skeletons_of_each_entry: no memory")?,
     }
     for (front, name) in [
         (Front::Nothing, "nothing"),
