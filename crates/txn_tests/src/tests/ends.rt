@@ -32,23 +32,26 @@ fn replayed<D: Disk, L: ledger::Ledger>(
     Some(topic)
 }
 
-/// The limit, and the places and bodies that a read of all gives.
+/// Tells the limit, and the places and bodies that a read of all gives.
 fn read_all<D: Disk, R: RecordLog, L: ledger::Ledger>(
     alloc: Global,
     topic: &Topic<R>,
     disk: &mut D,
     steps: &mut Steps<L>,
-) -> Option<String>
+    told: &mut String,
+) -> Option<()>
     requires { Backed R.stands (D.image disk.old) topic.now.content }
     ensures { Backed R.stands (D.image disk.new) topic.now.content }
 {
     let messages = topic.read(disk, 0, 10, steps).ok()?;
-    let mut told = format!(in alloc; "{}", topic.limit()).ok()?;
+    let limit = topic.limit();
+    told.push_str(format!(in alloc; "{limit}:").ok()?.as_str())
+        .ok()?;
     for message in messages.as_slice() {
         let one = format!(in alloc; " {}{}", message.place, message.body.as_str()).ok()?;
         told.push_str(one.as_str()).ok()?;
     }
-    Some(told)
+    told.push('\n').ok()
 }
 
 fn body(alloc: Global, text: &str) -> Option<Bytes>
@@ -56,6 +59,18 @@ fn body(alloc: Global, text: &str) -> Option<Bytes>
     ensures size { IfSome result (λ b. length b.bytes ≡ length text.now) }
 {
     Bytes::from_slice(alloc, text.as_bytes()).ok()
+}
+
+/// Publishes "c".
+fn publish<D: Disk, R: RecordLog>(alloc: Global, topic: &mut Topic<R>, disk: &mut D) -> Option<u64>
+    requires whole { topic.old.whole ≡ true }
+    requires in_range { InRange topic.old.limits }
+    requires backed { Backed R.stands (D.image disk.old) topic.old.content }
+    ensures whole { IfSome result (λ place. topic.new.whole ≡ true) }
+    ensures backed { Backed R.stands (D.image disk.new) topic.new.content }
+{
+    let body = body(alloc, "c")?;
+    topic.publish(disk, &[body]).ok()
 }
 
 /// Commits the first transaction in a topic, where it isn't aborted there.
@@ -73,23 +88,26 @@ fn commit<D: Disk, R: RecordLog>(topic: &mut Topic<R>, disk: &mut D) -> Option<u
     Some(topic.len())
 }
 
-type Ends = (String, u64, u64, u64, String);
-
-/// What is read before and after a plain message is published and the first transaction is committed, twice; between them the
-/// place of the message, and the lengths then.
-fn commits_twice<L: ledger::Ledger>(alloc: Global, blank: Blank, disk: &mut MemDisk) -> Option<Ends>
+/// Publishes a plain message and commits the first transaction, twice. The place of the message, and the lengths after each;
+/// and what is read before and afterwards.
+fn commits_twice<L: ledger::Ledger>(
+    alloc: Global,
+    blank: Blank,
+    disk: &mut MemDisk,
+    told: &mut String,
+) -> Option<(u64, u64, u64)>
     requires name { blank.name ≡ L.name }
     requires parts { blank.parts ≡ L.parts }
     requires one { L.parts ≡ 1 }
 {
     let mut steps = Steps::<L>::new(blank);
     let mut topic = replayed(alloc, disk, &mut steps)?;
-    let before = read_all(alloc, &topic, disk, &mut steps)?;
-    let place = topic.publish(disk, &[body(alloc, "c")?]).ok()?;
+    read_all(alloc, &topic, disk, &mut steps, told)?;
+    let place = publish(alloc, &mut topic, disk)?;
     let first = commit(&mut topic, disk)?;
     let second = commit(&mut topic, disk)?;
-    let after = read_all(alloc, &topic, disk, &mut steps)?;
-    Some((before, place, first, second, after))
+    read_all(alloc, &topic, disk, &mut steps, told)?;
+    Some((place, first, second))
 }
 
 // Ledgers, each as it is and as it is left; the earliest open transaction bounds what is read. A marker has a place of its own.
@@ -113,73 +131,91 @@ fn earliest_open_transaction_bounds_reads_and_a_second_finish_writes_nothing(
 ) -> Result<(), AllocError> {
     let alloc = rt.alloc();
     let wants: [(&[Short], u64, u64, &str, &[Short]); 2] = [
-        (&BOUNDED, 3, 5, "5 0a 1b 3c", &BOUNDED_ENDED),
-        (&OPEN, 1, 3, "3 0a 1c", &OPEN_ENDED),
+        (&BOUNDED, 3, 5, "0:\n5: 0a 1b 3c\n", &BOUNDED_ENDED),
+        (&OPEN, 1, 3, "0:\n3: 0a 1c\n", &OPEN_ENDED),
     ];
-    for (entries, place, length, read, left) in wants {
+    for (entries, place, length, reads, left) in wants {
         let bytes = topic_file(alloc, entries)?;
         let mut disk = disk_of(alloc, TOPIC, bytes.as_slice(), &[])?;
-        let told = commits_twice::<Brand>(alloc, Blank::new(1), &mut disk);
-        let Some((before, at, first, second, after)) = told else {
-            panic!(rt; "a lawful ledger");
-        };
-        assert_eq!(rt; (before.as_str(), after.as_str()), ("0", read));
-        assert_eq!(rt; (at, first, second), (place, length, length));
+        let mut told = String::new(alloc);
+        let ended = commits_twice::<Brand>(alloc, Blank::new(1), &mut disk, &mut told);
+        assert_eq!(rt; ended, Some((place, length, length)));
+        assert_eq!(rt; told.as_str(), reads);
         let bytes = topic_file(alloc, left)?;
         assert_eq!(rt; disk.file_bytes(TOPIC), bytes.as_slice());
     }
     Ok(())
 }
 
-/// A message of the first transaction, then a plain one, and the end of the transaction; what is read before the end, and
-/// after it.
-fn end_one<D: Disk, R: RecordLog, L: ledger::Ledger>(
+/// Publishes "b" in the first transaction, where that hasn't ended.
+fn publish_in<D: Disk, R: RecordLog>(
     alloc: Global,
     topic: &mut Topic<R>,
     disk: &mut D,
-    steps: &mut Steps<L>,
-    decision: Decision,
-) -> Option<(String, String)>
+) -> Option<u64>
     requires whole { topic.old.whole ≡ true }
     requires in_range { InRange topic.old.limits }
     requires backed { Backed R.stands (D.image disk.old) topic.old.content }
+    ensures whole { IfSome result (λ place. topic.new.whole ≡ true) }
+    ensures in_range { IfSome result (λ place. InRange topic.new.limits) }
+    ensures backed { Backed R.stands (D.image disk.new) topic.new.content }
 {
     let None = topic.marker(txn(0)) else {
         return None;
     };
-    let first = topic.publish_in(disk, txn(0), &[body(alloc, "b")?]).ok()?;
-    let second = topic.publish(disk, &[body(alloc, "c")?]).ok()?;
-    let before = read_all(alloc, topic, disk, steps)?;
+    let body = body(alloc, "b")?;
+    topic.publish_in(disk, txn(0), &[body]).ok()
+}
+
+/// Ends the first transaction, where it hasn't ended.
+fn end<D: Disk, R: RecordLog>(topic: &mut Topic<R>, disk: &mut D, decision: Decision) -> Option<u64>
+    requires whole { topic.old.whole ≡ true }
+    requires backed { Backed R.stands (D.image disk.old) topic.old.content }
+    ensures backed { Backed R.stands (D.image disk.new) topic.new.content }
+{
     topic.reserve_end().ok()?;
     let None = topic.marker(txn(0)) else {
         return None;
     };
     topic.finish(disk, txn(0), decision).ok()?;
-    let after = read_all(alloc, topic, disk, steps)?;
-    if first == 0 && second == 1 {
-        Some((before, after))
-    } else {
-        None
-    }
+    Some(topic.limit())
 }
 
-/// The same over a file, and what is read after the topic was opened again.
+/// A message of the first transaction, then a plain one, and the end of the transaction: their places, and the limit then. And
+/// what is read before the end, and after it.
 fn ends<L: ledger::Ledger>(
+    alloc: Global,
+    disk: &mut MemDisk,
+    steps: &mut Steps<L>,
+    decision: Decision,
+    told: &mut String,
+) -> Option<(u64, u64, u64)> {
+    let mut topic = replayed(alloc, disk, steps)?;
+    let first = publish_in(alloc, &mut topic, disk)?;
+    let second = publish(alloc, &mut topic, disk)?;
+    read_all(alloc, &topic, disk, steps, told)?;
+    let limit = end(&mut topic, disk, decision)?;
+    read_all(alloc, &topic, disk, steps, told)?;
+    Some((first, second, limit))
+}
+
+/// The same, and what is read after the topic was opened again.
+fn ends_and_opens<L: ledger::Ledger>(
     alloc: Global,
     blank: Blank,
     disk: &mut MemDisk,
     decision: Decision,
-) -> Option<(String, String, String)>
+    told: &mut String,
+) -> Option<(u64, u64, u64)>
     requires name { blank.name ≡ L.name }
     requires parts { blank.parts ≡ L.parts }
     requires one { L.parts ≡ 1 }
 {
     let mut steps = Steps::<L>::new(blank);
-    let mut topic = replayed(alloc, disk, &mut steps)?;
-    let (before, after) = end_one(alloc, &mut topic, disk, &mut steps, decision)?;
-    let again = replayed(alloc, disk, &mut steps)?;
-    let reread = read_all(alloc, &again, disk, &mut steps)?;
-    Some((before, after, reread))
+    let ended = ends(alloc, disk, &mut steps, decision, told)?;
+    let topic = replayed(alloc, disk, &mut steps)?;
+    read_all(alloc, &topic, disk, &mut steps, told)?;
+    Some(ended)
 }
 
 #[test]
@@ -187,14 +223,16 @@ fn committed_messages_are_visible_and_aborted_ones_are_not(
     rt: HostRuntime,
 ) -> Result<(), AllocError> {
     let alloc = rt.alloc();
-    for (decision, want) in [(Decision::Commit, "3 0b 1c"), (Decision::Abort, "3 1c")] {
+    for (decision, reads) in [
+        (Decision::Commit, "0:\n3: 0b 1c\n3: 0b 1c\n"),
+        (Decision::Abort, "0:\n3: 1c\n3: 1c\n"),
+    ] {
         let mut disk = disk_of(alloc, TOPIC, &[], &[])?;
-        let Some((before, after, again)) = ends::<Brand>(alloc, Blank::new(1), &mut disk, decision)
-        else {
-            panic!(rt; "an empty ledger");
-        };
-        assert_eq!(rt; before.as_str(), "0");
-        assert_eq!(rt; (after.as_str(), again.as_str()), (want, want));
+        let mut told = String::new(alloc);
+        let blank = Blank::new(1);
+        let ended = ends_and_opens::<Brand>(alloc, blank, &mut disk, decision, &mut told);
+        assert_eq!(rt; ended, Some((0, 1, 3)));
+        assert_eq!(rt; told.as_str(), reads);
     }
     Ok(())
 }

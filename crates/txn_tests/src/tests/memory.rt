@@ -66,33 +66,33 @@ fn lost_resize_has_the_size_before(rt: HostRuntime) -> Result<(), AllocError> {
 }
 
 #[test]
-fn source_and_sink_fail_at_their_second_call_and_a_clock_repeats_its_last_moment(
-    rt: HostRuntime,
-) -> Result<(), AllocError> {
+fn source_fails_at_its_second_call(rt: HostRuntime) -> Result<(), AllocError> {
     let alloc = rt.alloc();
     let mut source = is_sent(MemSource::new(alloc, Bytes::from_slice(alloc, b"abc")?, 2, &[2])?);
     let mut into = [0; 4];
-    for want in [Ok(2), Err(Failed), Ok(1), Ok(0)] {
-        assert_eq!(rt; source.take(&mut into), want);
-    }
+    assert_eq!(rt; source.take(&mut into), Ok(2));
+    assert_eq!(rt; source.take(&mut into), Err(Failed));
+    assert_eq!(rt; source.take(&mut into), Ok(1));
+    assert_eq!(rt; source.take(&mut into), Ok(0));
     assert_eq!(rt; into, *b"cb\0\0");
-
-    let mut sink = is_sent(MemSink::new(alloc, 2, &[2])?);
-    let puts: [(&[u8], Result<usize, Failed>); 3] = [
-        (b"abc", Ok(2)),
-        (b"c", Err(Failed)),
-        (b"d", Ok(1)),
-    ];
-    for (bytes, want) in puts {
-        assert_eq!(rt; sink.put(bytes), want);
-    }
-    assert_eq!(rt; sink.bytes(), b"abd".as_slice());
-
-    let mut clock = is_sent(ListClock::new(&[5, 7]));
-    for want in [5, 7, 7] {
-        assert_eq!(rt; clock.now(), want);
-    }
-    assert_eq!(rt; clock.fork().now(), 7);
-    assert_eq!(rt; ListClock::new(&[]).now(), 0);
     Ok(())
+}
+
+#[test]
+fn sink_fails_at_its_second_call(rt: HostRuntime) -> Result<(), AllocError> {
+    let mut sink = is_sent(MemSink::new(rt.alloc(), 2, &[2])?);
+    assert_eq!(rt; sink.put(b"abc"), Ok(2));
+    assert_eq!(rt; sink.put(b"c"), Err(Failed));
+    assert_eq!(rt; sink.put(b"d"), Ok(1));
+    assert_eq!(rt; sink.bytes(), b"abd".as_slice());
+    Ok(())
+}
+
+#[test]
+fn clock_repeats_its_last_moment(rt: HostRuntime) {
+    let mut clock = is_sent(ListClock::new(&[5, 7]));
+    let told = [clock.now(), clock.now(), clock.now()];
+    assert_eq!(rt; told, [5, 7, 7]);
+    assert_eq!(rt; ListClock::new(&[]).now(), 0);
+    assert_eq!(rt; clock.fork().now(), 7);
 }
