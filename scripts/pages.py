@@ -1,7 +1,7 @@
 #!/usr/bin/env python3
 """Looks whether the pages say what is there: each clause, law, definition, wrong body, file and script that they name is found in
 the sources, each link leads to a page and a section, no table stands twice, the README of a crate has fewer than 40 lines, and no
-line of text is wider than 128 columns. Usage: pages.py   (it starts no program)"""
+line of text in README.md, docs and examples is wider than 128 columns. Usage: pages.py   (it starts no program)"""
 import collections
 import glob
 import os
@@ -104,7 +104,7 @@ def named_files(wrong):
                 if f"pub {field} :" not in part:
                     wrong.append(f"{path}:{number}: no field {field} of {record}")
             for file in PATH.findall(line):
-                if not os.path.exists(os.path.join(TOP, file)):
+                if not re.search(r"/[A-Z]+/", file) and not os.path.exists(os.path.join(TOP, file)):
                     wrong.append(f"{path}:{number}: no file {file}")
     return len(edits)
 
@@ -151,7 +151,7 @@ def sizes(wrong):
         if crate and crate not in LONG and len(lines) >= CRATE_LINES:
             wrong.append(f"{path}: {len(lines)} lines, where fewer than {CRATE_LINES} are allowed")
         for number, line, code in text_and_code(path):
-            if len(line) > WIDTH and not line.startswith("|") and not code:
+            if len(line) > WIDTH and not crate and not line.startswith("|") and not code:
                 wrong.append(f"{path}:{number}: {len(line)} columns")
 
 
