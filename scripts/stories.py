@@ -260,10 +260,22 @@ def tell_all(path, counts, reasons):
     return lines
 
 
+def unnamed(paths):
+    """Files of stories that the program is not given: its arguments stand beside them, one a line."""
+    lines = []
+    for folder in sorted({os.path.dirname(path) for path in paths}):
+        args = os.path.join(folder, "..", "args")
+        if os.path.exists(args):
+            with open(args, encoding="utf-8") as file:
+                named = set(file.read().split())
+            lines += [f"{name}: the program is not given it" for name in sorted(set(os.listdir(folder)) - named)]
+    return lines
+
+
 def main():
     paths = sys.argv[1:] or sorted(glob.glob(f"{DATA}/*.txt"))
     counts, reasons = collections.Counter(), collections.defaultdict(list)
-    wrong = [line for path in paths for line in tell_all(path, counts, reasons)]
+    wrong = [line for path in paths for line in tell_all(path, counts, reasons)] + unnamed(paths)
     for line in wrong:
         print(line)
     left = ", ".join(f"{reason} ({' '.join(places)})" for reason, places in sorted(reasons.items()))

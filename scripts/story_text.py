@@ -144,6 +144,10 @@ class Story:
         number, text = case
         items = [item.strip() for item in BETWEEN_CASES.split(text)]
 
+        used = {int(sign) for line in (self.name, *(line for _, line in self.lines)) for sign in re.findall(r"\$([1-9])", line)}
+        if not used >= set(range(1, len(items) + 1)):
+            raise Unreadable(number, "a case with an item that no line has")
+
         def filled(line):
             return re.sub(r"\$([1-9])", lambda found: items[int(found.group(1)) - 1], line)
 
@@ -230,4 +234,6 @@ def steps_of(story):
                 raise ValueError(f"no line that may stand here: {line}")
         except ValueError as fault:
             raise Unreadable(number, str(fault)) from None
+    if not any(step.kind == "run" for step in steps):
+        raise Unreadable(story.number, "a story without a run")
     return steps

@@ -90,8 +90,11 @@ fn joined(alloc: Global, lines: &[Vec<u8>]) -> Result<Vec<u8>, AllocError> {
 /// The status, and what is said of it.
 fn ending_of(alloc: Global, status: &RunStatus) -> Result<String, AllocError> {
     let number = status.number();
-    let line = format!(in alloc; "{number} {status}")?;
-    String::from_str(alloc, line.as_str().trim_end())
+    let text = format!(in alloc; "{status}")?;
+    match text.as_str().strip_suffix("\n") {
+        Some(line) => format!(in alloc; "{number} {line}"),
+        None => format!(in alloc; "{number}{text}"),
+    }
 }
 
 /// Why the words are no command line, where they aren't.

@@ -38,6 +38,15 @@ const OPS: [Op; 5] = [Op::Size, Op::Read, Op::WriteAt, Op::Resize, Op::Sync];
 pub fn sweep(alloc: Global, past: &Past, look: &Script, also: &[Also]) -> Result<u64, Wrong> {
     let mut disk = past.before.crash(Choice::New)?;
     let whole = past.run(alloc, &past.script.lines, &mut disk)?;
+    let replies = lines_in(alloc, &whole.put)?.len();
+    let lines = past.script.lines.len();
+    if replies != lines {
+        return Err(Wrong::Came {
+            what: String::from_str(alloc, "the replies of a run whose calls fail")?,
+            want: format!(in alloc; "{lines}")?,
+            came: format!(in alloc; "{replies}")?,
+        });
+    }
     let mut count = 0u64;
     for file in &files_of(&disk)? {
         for op in &OPS {
@@ -144,10 +153,12 @@ fn allowed_after(
     let wholes = lines_in(alloc, &whole.put)?;
     let at = first_other(&replies, &wholes);
     let goes_on = came.ending.as_str() == "0";
+    let behind = at.saturating_add(1);
     let is_told = if goes_on {
-        replies.get(at.saturating_add(1)..) == wholes.get(at.saturating_add(1)..)
+        is_fault(replies.get(at)) && replies.get(behind..) == wholes.get(behind..)
     } else {
-        came.ending.as_str() == "5 disk fault" && replies.len() <= at.saturating_add(1)
+        came.ending.as_str() == "5 disk fault"
+            && (replies.is_empty() || (replies.len() == behind && is_fault(replies.get(at))))
     };
     if !is_told {
         return Err(Wrong::Came {
@@ -164,6 +175,17 @@ fn allowed_after(
         without: seen_after(alloc, past, look, &without)?,
         with: seen_after(alloc, past, look, &with)?,
     })
+}
+
+/// A reply that tells of a fault.
+fn is_fault(reply: Option<&&[u8]>) -> bool {
+    match reply {
+        Some(reply) => match str::from_utf8(reply) {
+            Ok(text) => text.contains("\"fault\""),
+            Err(_) => false,
+        },
+        None => false,
+    }
 }
 
 /// The lines before a place, that there where it is to be had, and those behind it where the run goes on.

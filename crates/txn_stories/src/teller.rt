@@ -75,6 +75,7 @@ impl Teller {
     pub fn tell(&mut self, line: &str) -> Result<(), Wrong> {
         let (word, rest) = first_word(line);
         match word {
+            "" if !rest.is_empty() => Err(Wrong::Line("a line begins with a space")),
             "" | "#" => self.show(line),
             ">" => {
                 self.show(line)?;
@@ -87,11 +88,11 @@ impl Teller {
             "<" => self.expect(line, rest, "\n"),
             "<-" => self.expect(line, rest, ""),
             "status" => {
-                self.ending = String::from_str(self.alloc, rest)?;
+                self.ending = self.of_run(rest)?;
                 Ok(())
             }
             "why" => {
-                self.why = String::from_str(self.alloc, rest)?;
+                self.why = self.of_run(rest)?;
                 Ok(())
             }
             "also" => {
@@ -107,6 +108,14 @@ impl Teller {
                 self.show(line)?;
                 self.direct(word, rest)
             }
+        }
+    }
+
+    /// What is said of a run that is asked for.
+    fn of_run(&self, rest: &str) -> Result<String, Wrong> {
+        match self.asked {
+            Asked::Run => Ok(String::from_str(self.alloc, rest)?),
+            _ => Err(Wrong::Line("it belongs to no run")),
         }
     }
 
@@ -150,7 +159,7 @@ impl Teller {
             "source" => self.set_source(rest),
             "sink" => self.set_sink(rest),
             "run" => self.begin(rest),
-            "each" => self.look(),
+            "each" if rest == "fault" => self.look(),
             "crash" => self.world.crash(&choices_of(self.alloc, rest)?),
             "or" => self.world.crash_again(&choices_of(self.alloc, rest)?),
             _ => Err(Wrong::Line("no such word")),
@@ -238,6 +247,9 @@ impl Teller {
 
     /// A look at the disk is asked for, with the words of the last run.
     fn look(&mut self) -> Result<(), Wrong> {
+        if self.world.disks.len() != 1 {
+            return Err(Wrong::Line("a run whose calls fail begins on one disk"));
+        }
         let Some(past) = &self.past else {
             return Err(Wrong::Line("there was no run before"));
         };
@@ -318,6 +330,9 @@ impl Teller {
         }
         same_lines(self.alloc, &self.want, &seen)?;
         let count = sweep(self.alloc, past, look, &self.also)?;
+        if count == 0 {
+            return Err(Wrong::Line("no call of the run can fail"));
+        }
         self.failed = self.failed.saturating_add(count);
         Ok(())
     }

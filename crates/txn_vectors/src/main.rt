@@ -51,7 +51,11 @@ fn tell_file(rt: HostRuntime, path: &str, text: &str) -> io::Result<bool> {
         if let Some(name) = line.strip_prefix("case ") {
             println!(rt; "{name}")?;
         } else if !line.is_empty() && !line.starts_with("#") {
-            if tell_line(rt, line)? {
+            let is_right = match line.strip_prefix("wrong ") {
+                Some(wrong) => tell_wrong(rt, wrong)?,
+                None => tell_line(rt, line)?,
+            };
+            if is_right {
                 told = told.saturating_add(1);
             } else {
                 failed = failed.saturating_add(1);
@@ -79,6 +83,24 @@ fn tell_line(rt: HostRuntime, line: &str) -> io::Result<bool> {
         Err(Wrong::Line(why)) => println!(rt; "FAILED {asked}\n  {why}")?,
     }
     Ok(false)
+}
+
+/// Tells a line that says something wrong. Whether something else comes.
+fn tell_wrong(rt: HostRuntime, line: &str) -> io::Result<bool> {
+    let Some((asked, want)) = line.split_once(" = ") else {
+        println!(rt; "FAILED {line}\n  it says not what is to come")?;
+        return Ok(false);
+    };
+    match told(rt.alloc(), asked) {
+        Ok(came) if came.as_str() != want => {
+            println!(rt; "wrong as it has to be: {asked}\n  want {want}\n  came {came}")?;
+            Ok(true)
+        }
+        _ => {
+            println!(rt; "FAILED {asked}\n  it says something wrong, and nothing else came")?;
+            Ok(false)
+        }
+    }
 }
 
 /// What comes of a line.
