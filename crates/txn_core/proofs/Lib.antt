@@ -13,3 +13,4 @@ pub mod TableSteps
 pub mod Led
 pub mod Driven
 pub mod Lines
+pub mod Reading

@@ -3,3 +3,4 @@ pub mod Steps
 pub mod Kept
 pub mod Worlds
 pub mod Tables
+pub mod Reads

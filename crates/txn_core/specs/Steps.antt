@@ -74,15 +74,15 @@ may_start n s p es =
 -- ---- What is told.
 
 -- Of an entry, whether its place is visible where no undecided one stands before it; none where it is undecided itself.
-abbrev pub shows_by : Option Decision → Option Bool
-shows_by (Some Commit) = Some true
-shows_by (Some Abort) = Some false
-shows_by None = None
+abbrev pub is_shown_by : Option Decision → Option Bool
+is_shown_by (Some Commit) = Some true
+is_shown_by (Some Abort) = Some false
+is_shown_by None = None
 
-abbrev pub shows : List CoreEntry → CoreEntry → Option Bool
-shows all core.Plain = Some true
-shows all (core.Inside x) = shows_by (marker_of all x)
-shows all _ = Some false
+abbrev pub is_shown : List CoreEntry → CoreEntry → Option Bool
+is_shown all core.Plain = Some true
+is_shown all (core.Inside x) = is_shown_by (marker_of all x)
+is_shown all _ = Some false
 
 -- Those of the places that are at or past the first.
 abbrev pub from_place : ℕ → List ℕ → List ℕ

@@ -3,7 +3,10 @@ ghost use Rattle.std.specs.Prelude.{◌≡◌, ◌≤◌, ◌++◌, ℕ, Bool, t
 ghost use mathlib.Core.List.{IsPrefix};
 ghost use Rattle.txn_base.specs.declared.core_entry.CoreEntry.{CoreEntry};
 ghost use Rattle.txn_model.specs.Words.{all_follow, numbers_from};
+ghost use Rattle.txn_model.specs.Skeletons.{topic_skeletons};
+ghost use Rattle.txn_model.specs.Topic.{visible_of, read_slice};
 ghost use Rattle.txn_model.specs.VisiblePlaces.{visible_places};
+ghost use Rattle.txn_base.specs.declared.entry.TopicEntry.{TopicEntry};
 ghost use Rattle.txn_base.specs.declared.limits.Limits.{Limits};
 ghost use Rattle.txn_base.specs.Limits.{InRange};
 ghost use Rattle.txn_base.specs.declared.request.Request.{Request};
@@ -17,10 +20,11 @@ ghost use Rattle.txn_model.specs.Table.{TableState, Batch, batch_part, settled, 
 ghost use Rattle.txn_core.specs.declared.step.CoreStep.{CoreStep};
 ghost use Rattle.txn_core.specs.declared.step.Told.{Told};
 ghost use Rattle.txn_core.specs.Together.{core_allows, is_alone, AreLawful};
-ghost use Rattle.txn_core.specs.Steps.{CoreState, can, after, run, settled_of, kept_of, from_place};
+ghost use Rattle.txn_core.specs.Steps.{CoreState, can, after, run, settled_of, kept_of, from_place, told_places};
 ghost use Rattle.txn_core.specs.Kept.{Stands, IsKept, opened};
 ghost use Rattle.txn_core.specs.Worlds.{skeletons_of, flights_of};
 ghost use Rattle.txn_core.specs.Tables.{Mirrors, AreSteps, IsShort};
+ghost use Rattle.txn_core.specs.Reads.{places_of, read_step};
 
 /// Whatever steps come, and whichever flights a stop keeps, the lists are lawful together; none gets shorter; and what was
 /// told stays the first visible places.
@@ -77,4 +81,13 @@ pub fn lines_are_steps()
 
     // Where nothing is in flight there is a core to begin with.
     ensures start { (n : ℕ) (t : TableState) → ((p : ℕ) → p ≤ n → flights_of t.world t.flights p ≡ []) → Mirrors n t (opened (map (skeletons_of t.world) (numbers_from 0 (n + 1)))) }
+{}
+
+/// The visible places of a topic's skeletons are those of its visible messages, in order, and what a read gives may be told.
+pub fn visible_places_are_those_of_the_messages()
+    ensures visible { (es : List TopicEntry) → places_of (visible_of es) ≡ visible_places (topic_skeletons es) }
+
+    // The places that a read gives are those that its step tells, and the step is allowed.
+    ensures read { (limits : Limits) (es : List TopicEntry) (first max : ℕ) → places_of (read_slice limits es first max) ≡ told_places (topic_skeletons es) first (length (read_slice limits es first max)) }
+    ensures allowed { (n : ℕ) (s : CoreState) (limits : Limits) (es : List TopicEntry) (topic first max : ℕ) → settled_of s topic ≡ topic_skeletons es → can n s (read_step limits es topic first max) ≡ true }
 {}

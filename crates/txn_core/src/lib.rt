@@ -13,7 +13,8 @@ mod visible;
 pub use entries::{of_ack, of_coord, of_topic};
 pub use laws::{
     a_lawful_start_is_kept, a_start_follows, changes_of_the_table_are_steps,
-    lawful_worlds_are_lawful_together, steps_keep_the_lists,
+    lawful_worlds_are_lawful_together, lines_are_steps, steps_keep_the_lists,
+    visible_places_are_those_of_the_messages,
 };
 pub use machine::Core;
 pub use skeleton::{Skeleton, Skeletons};

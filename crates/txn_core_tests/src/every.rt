@@ -1,4 +1,5 @@
-//! Every list of up to four steps of the coordinator and one part more, over two transactions.
+//! Every list of up to four steps of the coordinator and one part more, over two transactions, and of up to three where two
+//! parts have the markers of one.
 ghost use Rattle.std.specs.Prelude.{◌<◌};
 
 use crate::reading::Reading;
@@ -6,12 +7,6 @@ use crate::start::{numbered, start};
 use std::alloc::{AllocError, Global};
 use txn_base::{CoreEntry, Decision};
 use txn_core::{Core, CoreStep};
-
-/// How many steps there are to choose from.
-const CHOICES: u64 = 27;
-
-/// How many lists there are of each length.
-const LISTS: [u64; 5] = [1, 27, 729, 19_683, 531_441];
 
 /// What was done before a list begins.
 #[derive(Clone, Copy)]
@@ -21,6 +16,29 @@ pub enum Front {
     Registered,
     /// Besides, the first is to be committed, and its marker is in flight.
     Decided,
+    /// The first has two parts and is to be committed, and its marker is settled at one of them, which has written one of
+    /// three entries since.
+    Marked,
+}
+
+/// How many steps there are to choose from.
+fn count_choices(front: Front) -> u64
+    ensures { 0 < result }
+{
+    match front {
+        Front::Marked => 32,
+        _ => 27,
+    }
+}
+
+/// The most steps that a list has, and the parts that its steps are of.
+fn bounds(front: Front) -> (u64, u32)
+    ensures { result.1 < 32 }
+{
+    match front {
+        Front::Marked => (3, 3),
+        _ => (4, 2),
+    }
 }
 
 /// How many lists were tried, how many of their steps were made, and how many lists the core and the reading see otherwise,
@@ -32,46 +50,72 @@ pub struct Counts {
     pub different: u64,
 }
 
-/// Tries every list of up to four steps.
+/// Tries every list of up to so many steps.
 pub fn count_lists(alloc: Global, front: Front) -> Result<Counts, AllocError> {
     let mut counts = Counts {
         lists: 0,
         made: 0,
         different: 0,
     };
-    let mut length = 0_usize;
-    for lists in LISTS {
+    let choices = count_choices(front);
+    let (most, parts) = bounds(front);
+    let mut lists = 1_u64;
+    for length in 0..most.saturating_add(1) {
         for list in 0..lists {
             let mut steps = front_steps(alloc, front)?;
             let mut digits = list;
             for _ in 0..length {
-                steps.push(step_of(alloc, digits % CHOICES)?)?;
-                digits /= CHOICES;
+                steps.push(step_of(alloc, digits % choices)?)?;
+                digits /= choices;
             }
-            try_list(alloc, steps.as_slice(), &mut counts)?;
+            try_list(alloc, steps.as_slice(), parts, &mut counts)?;
         }
-        length = length.saturating_add(1);
+        lists = lists.saturating_mul(choices);
     }
     Ok(counts)
 }
 
-fn try_list(alloc: Global, steps: &[CoreStep], counts: &mut Counts) -> Result<(), AllocError> {
-    let core = Core::run_steps(alloc, steps)?;
+/// Makes the steps in one go but the last, and that one by itself: whether it is allowed is compared too.
+fn try_list(
+    alloc: Global,
+    steps: &[CoreStep],
+    parts: u32,
+    counts: &mut Counts,
+) -> Result<(), AllocError>
+    requires { parts < 32 }
+{
     let mut reading = Reading::new(alloc)?;
+    let mut allowed = false;
     for step in steps {
-        if reading.allows(step)? {
+        allowed = reading.allows(step)?;
+        if allowed {
             reading.make(step)?;
             counts.made = counts.made.saturating_add(1);
         }
     }
     counts.lists = counts.lists.saturating_add(1);
-    let holds = reading.is_same(&core)
+    let (core, could) = core_after(alloc, steps)?;
+    let holds = could == allowed
+        && reading.is_same(&core)
         && reading.still_tells()?
-        && reading.is_lawful_whatever_stays(&core, 2)?;
+        && reading.is_lawful_whatever_stays(&core, parts)?;
     if !holds {
         counts.different = counts.different.saturating_add(1);
     }
     Ok(())
+}
+
+/// The core after the steps, and whether it allowed the last.
+fn core_after(alloc: Global, steps: &[CoreStep]) -> Result<(Core, bool), AllocError> {
+    let Some((last, front)) = steps.split_last() else {
+        return Ok((Core::new(alloc)?, false));
+    };
+    let mut core = Core::run_steps(alloc, front)?;
+    let could = core.can(last);
+    if could {
+        core.step(last)?;
+    }
+    Ok((core, could))
 }
 
 /// Starts one entry and settles it.
@@ -104,20 +148,53 @@ fn front_steps(alloc: Global, front: Front) -> Result<Vec<CoreStep>, AllocError>
     ];
     settle_all(alloc, 0, begun.as_slice(), &mut steps)?;
     settle_all(alloc, 1, &[CoreEntry::Inside { txn: first }], &mut steps)?;
-    if matches!(front, Front::Decided) {
-        let marker = CoreEntry::Marker {
-            txn: first,
-            decision: Decision::Commit,
-        };
-        settle_all(
-            alloc,
-            0,
-            &[CoreEntry::Committing { txn: first }],
-            &mut steps,
-        )?;
-        steps.push(start(alloc, 1, &[marker])?)?;
+    match front {
+        Front::Decided => decide(alloc, &mut steps)?,
+        Front::Marked => mark_one(alloc, &mut steps)?,
+        _ => {}
     }
     Ok(steps)
+}
+
+fn marker() -> CoreEntry {
+    CoreEntry::Marker {
+        txn: numbered(0),
+        decision: Decision::Commit,
+    }
+}
+
+/// The first transaction is to be committed, and its marker is in flight.
+fn decide(alloc: Global, steps: &mut Vec<CoreStep>) -> Result<(), AllocError> {
+    let decided = CoreEntry::Committing { txn: numbered(0) };
+    settle_all(alloc, 0, &[decided], steps)?;
+    steps.push(start(alloc, 1, &[marker()])?)?;
+    Ok(())
+}
+
+/// The first transaction has a second part and is to be committed, and its marker is settled at the first part, which has
+/// settled one of three entries since.
+fn mark_one(alloc: Global, steps: &mut Vec<CoreStep>) -> Result<(), AllocError> {
+    let more = [
+        CoreEntry::AddPart {
+            txn: numbered(0),
+            part: 2,
+        },
+        CoreEntry::AddPart {
+            txn: numbered(1),
+            part: 1,
+        },
+        CoreEntry::Committing { txn: numbered(0) },
+    ];
+    settle_all(alloc, 0, more.as_slice(), steps)?;
+    settle_all(alloc, 1, &[marker()], steps)?;
+    let three = [
+        CoreEntry::Plain,
+        CoreEntry::Inside { txn: numbered(1) },
+        CoreEntry::Plain,
+    ];
+    steps.push(start(alloc, 1, three.as_slice())?)?;
+    steps.push(CoreStep::Settle { part: 1 })?;
+    Ok(())
 }
 
 /// The step of this number.
@@ -131,12 +208,25 @@ fn step_of(alloc: Global, number: u64) -> Result<CoreStep, AllocError> {
             part: if number < 23 { 0 } else { 1 },
             kept: number % 2 == 1,
         }),
-        _ => Ok(CoreStep::Tell {
+        25 | 26 => Ok(CoreStep::Tell {
             topic: 1,
             first: number % 2,
             count: 1,
         }),
+        27 => start(alloc, 1, &[]),
+        28 => start(alloc, 1, &[CoreEntry::Plain, part_entry(13)]),
+        29 => start(alloc, 2, &[marker()]),
+        30 => Ok(CoreStep::Settle { part: 2 }),
+        _ => start(alloc, 0, two_begun().as_slice()),
     }
+}
+
+/// Each would be allowed, one after the other.
+fn two_begun() -> [CoreEntry; 2] {
+    [
+        CoreEntry::New { txn: numbered(2) },
+        CoreEntry::New { txn: numbered(3) },
+    ]
 }
 
 /// An entry of the coordinator, of the transaction 0 where the number is even, and of 1 where it is odd.

@@ -13,7 +13,9 @@ mod worked;
 use crate::every::{Front, count_lists};
 use crate::skeletons::skeletons_of_each_entry;
 use crate::walk::walk;
-use crate::worked::core_skips_marker_without_decision;
+use crate::worked::{
+    core_skips_marker_of_a_decision_in_flight, core_skips_marker_without_decision,
+};
 use std::process::ExitCode;
 
 fn main(rt: HostRuntime) -> ExitCode {
@@ -27,10 +29,17 @@ fn main(rt: HostRuntime) -> ExitCode {
 fn report(rt: HostRuntime) -> Result<(), std::io::Error> {
     match core_skips_marker_without_decision(rt.alloc()) {
         Ok(lengths) => println!(rt;
-            "core_skips_marker_without_decision: the log has {} entries, part 1 has {}",
-            lengths.log, lengths.part
+            "core_skips_marker_without_decision: the log has {} entries, part 1 has {} and {} in flight",
+            lengths.log, lengths.part, lengths.flight
         )?,
         Err(_) => println!(rt; "core_skips_marker_without_decision: no memory")?,
+    }
+    match core_skips_marker_of_a_decision_in_flight(rt.alloc()) {
+        Ok(lengths) => println!(rt;
+            "core_skips_marker_of_a_decision_in_flight: the log has {} entries, part 1 has {} and {} in flight",
+            lengths.log, lengths.part, lengths.flight
+        )?,
+        Err(_) => println!(rt; "core_skips_marker_of_a_decision_in_flight: no memory")?,
     }
     match skeletons_of_each_entry(rt.alloc()) {
         Ok(true) => println!(rt; "skeletons_of_each_entry: as they should be")?,
@@ -38,16 +47,17 @@ fn report(rt: HostRuntime) -> Result<(), std::io::Error> {
         Err(_) => println!(rt; "skeletons_of_each_entry: no memory")?,
     }
     for (front, name) in [
-        (Front::Nothing, "nothing"),
-        (Front::Registered, "a message"),
-        (Front::Decided, "a decision"),
+        (Front::Nothing, "4 steps after nothing"),
+        (Front::Registered, "4 steps after a message"),
+        (Front::Decided, "4 steps after a decision"),
+        (Front::Marked, "3 steps after a marker at one of two parts"),
     ] {
         match count_lists(rt.alloc(), front) {
             Ok(counts) => println!(rt;
-                "lists of up to 4 steps after {name}: {} tried, {} steps made, {} differ",
+                "lists of up to {name}: {} tried, {} steps made, {} differ",
                 counts.lists, counts.made, counts.different
             )?,
-            Err(_) => println!(rt; "lists of up to 4 steps after {name}: no memory")?,
+            Err(_) => println!(rt; "lists of up to {name}: no memory")?,
         }
     }
     for seed in 1..9_u64 {

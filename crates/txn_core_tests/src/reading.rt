@@ -176,10 +176,10 @@ impl Reading {
         Ok(())
     }
 
-    /// The core's settled lists and what it told are those of this reading.
+    /// The core's settled lists, what it has in flight and what it told are those of this reading.
     pub fn is_same(&self, core: &Core) -> bool {
         for part in 0..70_u32 {
-            if core.settled(part) != self.settled(part) {
+            if core.settled(part) != self.settled(part) || core.flight(part) != self.flight(part) {
                 return false;
             }
         }
@@ -226,7 +226,7 @@ impl Reading {
             for part in 0..parts {
                 let mut list = Vec::from_slice(self.alloc, core.settled(part))?;
                 if (choice >> part) & 1 == 1 {
-                    list.extend_from_slice(self.flight(part))?;
+                    list.extend_from_slice(core.flight(part))?;
                 }
                 lists.push(list)?;
             }

@@ -91,7 +91,8 @@ fn below(random: &mut Random, bound: u32) -> u32
     (random.below(u64::from(bound)) & 0xff) as u32
 }
 
-/// Mostly one entry, sometimes none, a few, or one more than a batch may have, of one of the last transactions.
+/// Mostly one entry, sometimes none or a few, of one of the last transactions; or as many plain ones as a batch may have, or
+/// one more.
 fn next_batch(
     alloc: Global,
     random: &mut Random,
@@ -99,10 +100,11 @@ fn next_batch(
     begun: u64,
 ) -> Result<Skeleton, AllocError> {
     let mut count = match random.below(16) {
-        0 => 65_u64,
-        1 => 0,
-        2 | 3 => 3,
-        4 => 2,
+        0 => 64_u64,
+        1 => 65,
+        2 => 0,
+        3 | 4 => 3,
+        5 => 2,
         _ => 1,
     };
     if part == 0 && count != 0 && random.below(8) != 0 {
@@ -111,7 +113,12 @@ fn next_batch(
     let txn = numbered(begun.saturating_sub(random.below(5)));
     let mut entries = Skeleton::new(alloc);
     for _ in 0..count {
-        entries.push(next_entry(random, part, txn, begun))?;
+        let entry = if part != 0 && count > 3 {
+            CoreEntry::Plain
+        } else {
+            next_entry(random, part, txn, begun)
+        };
+        entries.push(entry)?;
     }
     Ok(entries)
 }
