@@ -4,7 +4,7 @@ ghost use Rattle.txn_base.specs.Content.{Backed};
 ghost use Rattle.txn_base.specs.Limits.{InRange};
 ghost use Rattle.txn_ledger.specs.Ledger.{StandsIn};
 
-use super::files::{Short, TOPIC, disk_of, topic_file, txn};
+use super::files::{FIRST, Short, TOPIC, disk_of, topic_file};
 use super::topics::{COMMIT, INSIDE, PLAIN, opened};
 use std::alloc::{AllocError, Global};
 use std::marker::Brand;
@@ -81,10 +81,10 @@ fn commit<D: Disk, R: RecordLog>(topic: &mut Topic<R>, disk: &mut D) -> Option<u
     ensures backed { Backed R.stands (D.image disk.new) topic.new.content }
 {
     topic.reserve_end().ok()?;
-    if topic.marker(txn(0)) == Some(Decision::Abort) {
+    if topic.marker(FIRST) == Some(Decision::Abort) {
         return None;
     }
-    topic.finish(disk, txn(0), Decision::Commit).ok()?;
+    topic.finish(disk, FIRST, Decision::Commit).ok()?;
     Some(topic.len())
 }
 
@@ -160,11 +160,11 @@ fn publish_in<D: Disk, R: RecordLog>(
     ensures in_range { IfSome result (λ place. InRange topic.new.limits) }
     ensures backed { Backed R.stands (D.image disk.new) topic.new.content }
 {
-    let None = topic.marker(txn(0)) else {
+    let None = topic.marker(FIRST) else {
         return None;
     };
     let body = body(alloc, "b")?;
-    topic.publish_in(disk, txn(0), &[body]).ok()
+    topic.publish_in(disk, FIRST, &[body]).ok()
 }
 
 /// Ends the first transaction, where it hasn't ended.
@@ -174,10 +174,10 @@ fn end<D: Disk, R: RecordLog>(topic: &mut Topic<R>, disk: &mut D, decision: Deci
     ensures backed { Backed R.stands (D.image disk.new) topic.new.content }
 {
     topic.reserve_end().ok()?;
-    let None = topic.marker(txn(0)) else {
+    let None = topic.marker(FIRST) else {
         return None;
     };
-    topic.finish(disk, txn(0), decision).ok()?;
+    topic.finish(disk, FIRST, decision).ok()?;
     Some(topic.limit())
 }
 

@@ -1,6 +1,6 @@
 //! The outside in memory.
 use super::files::{TOPIC, disk_of};
-use std::alloc::AllocError;
+use std::alloc::{AllocError, Global};
 use txn_base::{Bytes, Clock, Disk, Failed, FileId, Sink, Source};
 use txn_memdisk::{Choice, FaultAt, ListClock, MemDisk, MemSink, MemSource, Op};
 
@@ -14,6 +14,14 @@ fn size_of<D: Disk>(disk: &mut D, file: FileId) -> Result<u64, Failed> {
 
 fn sync<D: Disk>(disk: &mut D, file: FileId) -> bool {
     disk.sync(file).is_ok()
+}
+
+/// A file of "abcd", in which "XY" was written at 1; and whether that succeeded.
+fn written(alloc: Global, faults: &[FaultAt]) -> Result<(MemDisk, bool), AllocError> {
+    let mut disk = MemDisk::new(alloc, faults)?;
+    disk.put_file(TOPIC, b"abcd")?;
+    let told = disk.write_at(TOPIC, 1, b"XY").is_ok();
+    Ok((disk, told))
 }
 
 /// What a read gives, and what a crash leaves: of the changes lost, kept, and cut short with ? in their ranges.
@@ -45,8 +53,9 @@ fn failed_write_is_pending_in_its_range(rt: HostRuntime) -> Result<(), AllocErro
             op: Op::WriteAt,
             nth,
         };
-        let mut disk = is_sent(disk_of(rt.alloc(), TOPIC, b"abcd", &[fault])?);
-        assert_eq!(rt; disk.write_at(TOPIC, 1, b"XY").is_ok(), nth == 0);
+        let (disk, told) = written(rt.alloc(), &[fault])?;
+        assert_eq!(rt; told, nth == 0);
+        let mut disk = is_sent(disk);
         assert!(rt; leaves(&disk, pending)?);
         assert!(rt; sync(&mut disk, TOPIC));
         assert!(rt; leaves(&disk, [sure, sure, sure, sure])?);
