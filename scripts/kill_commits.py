@@ -7,6 +7,7 @@ cut: the system keeps what was written.
 Usage: kill_commits.py [PROGRAM [ROUNDS [SEED]]]   (PROGRAM as `rt run` left it, unless another is named)"""
 import collections
 import itertools
+import os
 import random
 import statistics
 import sys
@@ -125,8 +126,13 @@ def whole(client, program, before):
 
 
 def bytes_kept(client):
-    """The ledger's bytes: each message that was acknowledged stands at its place, in its transaction."""
-    with open(f"{client.folder}/{LEDGER}", "rb") as file:
+    """The ledger's bytes: each message that was acknowledged stands at its place, in its transaction. There is no file before the
+    first record of the topic."""
+    path = f"{client.folder}/{LEDGER}"
+    if not os.path.exists(path):
+        assert not client.plain and not any(transaction.messages for transaction in client.transactions), "the ledger is gone"
+        return 0
+    with open(path, "rb") as file:
         records, _ = grammar.records_of_file(file.read())
     entries = grammar.entries_of(records)
     for place, text in client.plain.items():
