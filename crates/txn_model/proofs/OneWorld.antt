@@ -6,7 +6,7 @@ use Rattle.txn_base.specs.Disk.{Files}
 use Rattle.txn_base.specs.Decoded.{coord_entry_of, topic_entry_of, ack_entry_of}
 use Rattle.txn_base.specs.Frames.{Record, Batch, Stands, records}
 use Rattle.txn_base.specs.Records.{IsCoordRecord, IsAckRecord}
-use Rattle.txn_base.proofs.Unique.{stands_one}
+use Rattle.txn_base.proofs.Laws.{stands_one}
 use Rattle.txn_base.specs.Names.{is_sub}
 use Rattle.txn_model.specs.declared.world.World.{World}
 use Rattle.txn_model.specs.Words.{has, list_at}
