@@ -1,3 +1,4 @@
+pub mod Laws
 pub mod AckRecords
 pub mod Catalog
 pub mod Coords
