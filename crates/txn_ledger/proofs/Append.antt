@@ -4,8 +4,7 @@ use Rattle.txn_base.specs.declared.file_id.FileId.{FileId}
 use Rattle.txn_base.specs.Disk.{Files, Changes, Since}
 use Rattle.txn_base.specs.Frames.{Batch, IsBatch, frames, behind_gate, Stands}
 use Rattle.txn_base.specs.Content.{LedgerContent, settled, landed, begun, Backed, Appends}
-use Rattle.txn_base.proofs.Logs.{settled_stands}
-use Rattle.txn_base.proofs.Moments.{weaker}
+use Rattle.txn_base.proofs.Laws.{settled_stands, weaker}
 use Rattle.txn_ledger.specs.Gate.{IsClosedAt, MayOpen}
 use Rattle.txn_ledger.specs.Ledger.{IsFile, StandsIn, ExactlyIn}
 use Rattle.txn_ledger.proofs.Frames.{closed_of_stands, all_or_none, opened_stands, opened_is}

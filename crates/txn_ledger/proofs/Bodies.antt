@@ -7,7 +7,7 @@ use Rattle.txn_base.specs.Bytes.{contents_of}
 use Rattle.txn_base.specs.Room.{Roomy}
 use Rattle.txn_base.specs.Frames.{Batch, Record, IsBatch, record_bytes, body_of, frame, frames, records}
 use Rattle.txn_base.specs.Content.{Standing, settled, in_flight, looked_at, IsInFlight}
-use Rattle.txn_base.proofs.Unique.{body_small}
+use Rattle.txn_base.proofs.Laws.{body_small}
 use Rattle.txn_ledger.specs.declared.position.Position.{Position}
 use Rattle.txn_ledger.specs.Positions.{positions_of, positions_in}
 use Rattle.txn_ledger.specs.Tied.{IsSent}

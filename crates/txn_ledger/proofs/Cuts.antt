@@ -7,7 +7,7 @@ use Rattle.std.proofs.lemmas.List.Elements.{All-head, All-tail, All-append}
 use Rattle.byteorder.specs.Endian.{big_bytes, big_number}
 use Rattle.byteorder.specs.Numbers.{big_number-reads_back, length-bytes_high_first}
 use Rattle.txn_base.specs.Frames.{Record, Batch, IsRecord, IsBatch, record_bytes, body_of}
-use Rattle.txn_base.proofs.Unique.{counted_one, body_long}
+use Rattle.txn_base.proofs.Laws.{counted_one, body_long}
 use Rattle.txn_ledger.specs.declared.position.Position.{Position}
 use Rattle.txn_ledger.specs.Bodies.{first_of, behind_first, batch_from, batch_in}
 use Rattle.txn_ledger.specs.Positions.{positions_of}

@@ -4,7 +4,7 @@ use Rattle.std.proofs.lemmas.List.{append_assoc, take_at, drop_at}
 use Rattle.byteorder.specs.Endian.{big_bytes, big_number}
 use Rattle.byteorder.specs.Numbers.{big_number-reads_back, length-bytes_high_first}
 use Rattle.txn_base.specs.Frames.{Batch, IsBatch, body_of, frame}
-use Rattle.txn_base.proofs.Unique.{body_length, body_small}
+use Rattle.txn_base.proofs.Laws.{body_length, body_small}
 use Rattle.txn_ledger.specs.Found.{AtNone}
 
 -- four bytes are those of their number

@@ -6,8 +6,7 @@ use Rattle.txn_base.specs.Disk.{Files, Same, Changes, OldOrResized, Since}
 use Rattle.std.specs.Prelude.{All}
 use Rattle.byteorder.specs.Endian.{big_bytes}
 use Rattle.txn_base.specs.Frames.{Batch, IsBatch, IsDamagedAt, body_of, frame, frames, records, Stands}
-use Rattle.txn_base.proofs.Moments.{goes_on}
-use Rattle.txn_base.proofs.Unique.{stands_one, stands_not_damaged}
+use Rattle.txn_base.proofs.Laws.{goes_on, stands_one, stands_not_damaged}
 use Rattle.txn_ledger.specs.Found.{KeepsList, KeepsDamaged}
 use Rattle.txn_ledger.proofs.InFlight.{cut_stands}
 use Rattle.txn_ledger.proofs.Bodies.{frame_length}

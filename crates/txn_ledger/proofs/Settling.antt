@@ -4,7 +4,7 @@ use Rattle.txn_base.specs.declared.file_id.FileId.{FileId}
 use Rattle.txn_base.specs.Disk.{Files, Same, Changes, OldOrResized, Only, Since}
 use Rattle.txn_base.specs.Frames.{frames, Stands}
 use Rattle.txn_base.specs.Content.{LedgerContent, kept, dropped, IsInFlight, KeptOrNot, Backed, Settles}
-use Rattle.txn_base.proofs.Moments.{weaker, goes_on}
+use Rattle.txn_base.proofs.Laws.{weaker, goes_on}
 use Rattle.txn_ledger.specs.Ledger.{IsFile, StandsIn}
 use Rattle.txn_ledger.specs.Tied.{IsSent}
 use Rattle.txn_ledger.proofs.Chain.{same_on}

@@ -5,7 +5,7 @@ use Rattle.std.proofs.lemmas.List.Concat.{flat_map-append}
 use Rattle.txn_base.specs.declared.file_id.FileId.{FileId}
 use Rattle.txn_base.specs.Disk.{Files}
 use Rattle.txn_base.specs.Frames.{Batch, frame, frames, Stands}
-use Rattle.txn_base.proofs.Unique.{stands_one}
+use Rattle.txn_base.proofs.Laws.{stands_one}
 use Rattle.txn_ledger.specs.Ledger.{IsFile, StandsIn, BeginsIn, ExactlyIn}
 
 pub local : (key : FileId) (c d : Files) (batches : List Batch) → ((file : FileId) → IsFile key file → d file ≡ c file) → StandsIn key c batches → StandsIn key d batches

@@ -1,6 +1,6 @@
 use Rattle.std.proofs.Common.{◌≡◌, arith, length, ap, ◌∙◌}
 use Rattle.txn_base.specs.Content.{settled}
-use Rattle.txn_base.proofs.Unique.{body_small}
+use Rattle.txn_base.proofs.Laws.{body_small}
 use Rattle.txn_ledger.specs.Ledger.{Shown}
 use Rattle.txn_ledger.proofs.Tied.{tied_landed, tied_begun}
 use Rattle.txn_ledger.proofs.ledger.LedgerRecordLog.append.Goals as goal
