@@ -18,7 +18,7 @@ use Rattle.txn_model.specs.Words.{first_of, last_of}
 use Rattle.txn_model.specs.Skeletons.{same_txn, coord_skeleton, coord_skeletons}
 use Rattle.txn_model.specs.Coord.{has_new, is_new, is_add, says_status, status_of, in_parts, is_open, is_deciding, coord_allows}
 use Rattle.txn_model.specs.Deadlines.{says_deadline}
-use Rattle.txn_model.proofs.Prefixes.{first_of-append}
+use Rattle.txn_model.proofs.Laws.Lists.{first_of-append}
 use Rattle.txn_coordinator.specs.declared.row.Row.{Row}
 use Rattle.txn_coordinator.specs.Table.{IsRow, IsBlank, IsRowOf, txn_in, row_after, row_grown, row_with}
 

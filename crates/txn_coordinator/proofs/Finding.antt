@@ -13,7 +13,7 @@ use Rattle.txn_model.specs.Words.{numbers_from, below}
 use Rattle.txn_model.specs.Skeletons.{coord_skeletons}
 use Rattle.txn_model.specs.Coord.{has_new, count_new, status_of, decision_of, closing_of, CoordLawful}
 use Rattle.txn_model.specs.Deadlines.{txn, is_closed, is_undriven, low_of, first_undriven}
-use Rattle.txn_model.proofs.Statuses.{Agrees, last_by, status_by, lawful_agrees}
+use Rattle.txn_model.proofs.Laws.Logs.{Agrees, last_by, status_by, lawful_agrees}
 use Rattle.txn_coordinator.specs.declared.row.Row.{Row}
 use Rattle.txn_coordinator.specs.Table.{AreRows, IsTable, empty_row, decision_in}
 use Rattle.txn_coordinator.proofs.Rows.{status_of_row}

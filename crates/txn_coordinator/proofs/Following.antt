@@ -9,7 +9,7 @@ use Rattle.txn_base.specs.Records.{IsCoordEntry}
 use Rattle.txn_model.specs.Words.{all_follow}
 use Rattle.txn_model.specs.Skeletons.{coord_skeleton, coord_skeletons}
 use Rattle.txn_model.specs.Coord.{coord_allows, CoordLawful}
-use Rattle.txn_model.proofs.Prefixes.{all_follow-append}
+use Rattle.txn_model.proofs.Laws.Lists.{all_follow-append}
 use Rattle.txn_coordinator.specs.declared.row.Row.{Row}
 use Rattle.txn_coordinator.specs.Table.{AreEntries, IsRowOf, row_with}
 use Rattle.txn_coordinator.proofs.Entry.{row_more}

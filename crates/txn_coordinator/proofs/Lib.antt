@@ -1,3 +1,4 @@
+pub mod Laws
 pub mod Following
 pub mod Allowed
 pub mod Applied

@@ -19,7 +19,7 @@ use Rattle.txn_model.specs.Words.{last_of, all_follow}
 use Rattle.txn_model.specs.Skeletons.{same_txn, coord_skeleton, coord_skeletons}
 use Rattle.txn_model.specs.Coord.{has_new, is_begin, count_new, says_status, status_of, is_open, is_deciding, coord_allows, CoordLawful}
 use Rattle.txn_model.specs.Deadlines.{txn, is_closed}
-use Rattle.txn_model.proofs.Prefixes.{all_follow-append}
+use Rattle.txn_model.proofs.Laws.Lists.{all_follow-append}
 use Rattle.txn_coordinator.specs.declared.row.Row.{Row}
 use Rattle.txn_coordinator.specs.Table.{IsRow, IsBlank, AreEntries, AreRows, IsPassed, IsTable, HasRow, empty_row, txn_in, row_after, rows_with}
 use Rattle.txn_coordinator.proofs.Entry.{Turns, skeletons-push, row_stays, blank_stays, row_begins, row_goes_on, turns_begun, txn_equal}

@@ -6,8 +6,7 @@ use Rattle.txn_base.specs.Content.{LedgerContent, settled, Backed, KeptOrNot}
 use Rattle.txn_base.specs.Disk.{Files, Since, Same, CountsFaults}
 use Rattle.txn_base.specs.Frames.{Batch}
 use Rattle.txn_base.specs.Outside.{Rose}
-use Rattle.txn_base.proofs.Logs.{settled_stands}
-use Rattle.txn_base.proofs.Moments.{started, goes_on}
+use Rattle.txn_base.proofs.Laws.{settled_stands, started, goes_on}
 
 -- what a settled log may be asked for
 pub begins_settled : (stands begins : FileId → Files → List Batch → Type 0) → ((key : FileId) (c : Files) (batches more : List Batch) → stands key c (batches ++ more) → begins key c batches)
