@@ -1,3 +1,4 @@
+pub mod Laws
 pub mod Adding
 pub mod OnlyReading
 pub mod Slicing

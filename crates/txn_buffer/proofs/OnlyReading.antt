@@ -5,7 +5,7 @@ use Rattle.txn_base.specs.declared.file_id.FileId.{FileId}
 use Rattle.txn_base.specs.Content.{LedgerContent, Standing, settled, in_flight, looked_at, KeptOrNot, Backed}
 use Rattle.txn_base.specs.Disk.{Files, Since, Same, CountsFaults}
 use Rattle.txn_base.specs.Frames.{Batch}
-use Rattle.txn_base.proofs.Moments.{started, goes_on}
+use Rattle.txn_base.proofs.Laws.{started, goes_on}
 use Rattle.txn_buffer.specs.Reads.{OnlyReads}
 
 -- Files that are backed begin with the batches.

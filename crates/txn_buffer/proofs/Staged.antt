@@ -11,8 +11,8 @@ use Rattle.txn_base.specs.declared.entry.TopicEntry.{TopicEntry}
 use Rattle.txn_model.specs.Words.{all_follow}
 use Rattle.txn_model.specs.Skeletons.{topic_skeleton, topic_skeletons}
 use Rattle.txn_model.specs.Topic.{marks, marker_of, part_allows, TopicLawful}
-use Rattle.txn_model.proofs.Prefixes.{first_of-append, all_follow-append}
-use Rattle.txn_model.proofs.Bools.{and_l, and_r}
+use Rattle.txn_model.proofs.Laws.Lists.{first_of-append, all_follow-append}
+use Rattle.txn_model.proofs.Laws.Tests.{and_l, and_r}
 use Rattle.txn_records.specs.Topics.{marker_of as marker_entry}
 use Rattle.txn_buffer.proofs.Tables.{no_true, skeletons-push}
 

@@ -8,7 +8,7 @@ use Rattle.std.proofs.lemmas.Bool.Decides.{eqb_tells}
 use Rattle.std.proofs.lemmas.List.Concat.{flat_map-append}
 use Rattle.txn_base.specs.Decoded.{topic_entry_of, topic_entries}
 use Rattle.txn_base.specs.Frames.{Batch, records}
-use Rattle.txn_model.proofs.Bools.{and_l, and_r}
+use Rattle.txn_model.proofs.Laws.Tests.{and_l, and_r}
 use Rattle.std.proofs.lemmas.List.{map-append, append-nil, length-map}
 use Rattle.std.proofs.lemmas.List.Elements.{All-append, All-cons, All-nil}
 use Rattle.txn_base.specs.declared.txn.TxnId.{TxnId}
@@ -20,7 +20,7 @@ use Rattle.txn_base.specs.Records.{IsTopicEntry}
 use Rattle.txn_model.specs.Words.{all_follow}
 use Rattle.txn_model.specs.Skeletons.{same_txn, topic_skeleton, topic_skeletons}
 use Rattle.txn_model.specs.Topic.{marks, marker_of, part_allows, limit_from, limit_of}
-use Rattle.txn_model.proofs.Prefixes.{first_of-append, all_follow-append}
+use Rattle.txn_model.proofs.Laws.Lists.{first_of-append, all_follow-append}
 use Rattle.txn_buffer.specs.Front.{inside_from, waiting, pending_of, first_place, key_of, same_key, FrontView, IsTable}
 
 pub no_true : false ≡ true → ⊥
