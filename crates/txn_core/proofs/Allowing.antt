@@ -14,8 +14,8 @@ use Rattle.txn_model.specs.Skeletons.{same_txn}
 use Rattle.txn_model.specs.Coord.{coord_allows, decision_of, closing_of, in_parts}
 use Rattle.txn_model.specs.Topic.{marks, marker_of, part_allows}
 use Rattle.txn_model.specs.World.{is_inside, has_inside}
-use Rattle.txn_model.proofs.Bools.{no_true, and_l, and_r, and_both, or_r}
-use Rattle.txn_model.proofs.Prefixes.{first_of-append}
+use Rattle.txn_model.proofs.Laws.Tests.{no_true, and_l, and_r, and_both, or_r}
+use Rattle.txn_model.proofs.Laws.Lists.{first_of-append}
 use Rattle.txn_core.specs.Together.{IsAlone, is_alone}
 use Rattle.txn_core.specs.Steps.{CoreState, settled_of, flight_of, is_decision, is_marked, is_batch, may_cross, may_start}
 use Rattle.txn_core.proofs.Alone.{alone_split, part_split}

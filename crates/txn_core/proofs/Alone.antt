@@ -12,9 +12,9 @@ use Rattle.txn_model.specs.Words.{all_follow, first_of}
 use Rattle.txn_model.specs.Coord.{is_add, says_closing, closing_of, in_parts, coord_allows, CoordLawful}
 use Rattle.txn_model.specs.Topic.{part_allows}
 use Rattle.txn_model.specs.World.{is_inside, has_inside}
-use Rattle.txn_model.proofs.Bools.{no_true, and_l, or_cases, or_l}
-use Rattle.txn_model.proofs.Prefixes.{first_of-append, all_follow-append}
-use Rattle.txn_model.proofs.LawfulGrowth.{closed_parts}
+use Rattle.txn_model.proofs.Laws.Tests.{no_true, and_l, or_cases, or_l}
+use Rattle.txn_model.proofs.Laws.Lists.{first_of-append, all_follow-append}
+use Rattle.txn_model.proofs.Laws.Logs.{closed_parts}
 use Rattle.txn_core.specs.Together.{core_allows, is_alone, IsAlone}
 
 pub none_some : {V : Type 0} {v : V} → None ≡ Some v → ⊥

@@ -7,8 +7,9 @@ use Rattle.txn_base.specs.declared.core_entry.CoreEntry.{CoreEntry}
 use Rattle.txn_model.specs.Coord.{says_closing, decision_of, closing_of, in_parts}
 use Rattle.txn_model.specs.Topic.{marks, marker_of}
 use Rattle.txn_model.specs.World.{has_inside}
-use Rattle.txn_model.proofs.Prefixes.{first_stays}
-use Rattle.txn_model.proofs.LawfulGrowth.{parts_stay, decision_stays, marker_stays}
+use Rattle.txn_model.proofs.Laws.Lists.{first_stays}
+use Rattle.txn_model.proofs.Laws.Logs.{parts_stay, decision_stays}
+use Rattle.txn_model.proofs.Laws.Topics.{marker_stays}
 use Rattle.txn_core.specs.Together.{IsAlone}
 use Rattle.txn_core.specs.Kept.{Stands}
 use Rattle.txn_core.proofs.Alone.{alone_front, alone_log, inside_stays, inside_cases, first_cases, parts_settled}

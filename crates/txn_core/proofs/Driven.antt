@@ -19,13 +19,10 @@ use Rattle.txn_model.specs.Table.{TableState, nothing, in_coord, in_topic, in_su
 use Rattle.txn_model.specs.Drive.{Rebuilds, MarksAll, StopsAt, recovery_fault, recovery_memory, marker_memory, marker_fault, StopsWithin, Drives, already, closes, close_fault, stops}
 use Rattle.txn_model.specs.Answers.{AppendFails, Ends}
 use Rattle.txn_model.specs.Allowed.{IsWhole, LawfulState}
-use Rattle.txn_model.proofs.Bools.{no_true}
-use Rattle.txn_model.proofs.LawfulSteps.{settled_state}
-use Rattle.txn_model.proofs.LawfulDrive.{Keeps, rebuilds_keeps, rebuilds_coord}
-use Rattle.txn_model.proofs.LawfulMarks.{marker_granted, AreNamed, Marked, marks_keep}
-use Rattle.txn_model.proofs.LawfulAnswers.{closing_allowed}
-use Rattle.txn_model.proofs.Grants.{Granted, decision_granted}
-use Rattle.txn_model.proofs.Named.{few_names}
+use Rattle.txn_model.proofs.Laws.Tests.{no_true}
+use Rattle.txn_model.proofs.Laws.States.{settled_state, Keeps, rebuilds_keeps, rebuilds_coord, AreNamed, Marked, marks_keep}
+use Rattle.txn_model.proofs.Laws.Grants.{marker_granted, closing_allowed, Granted, decision_granted}
+use Rattle.txn_model.proofs.Laws.Names.{few_names}
 use Rattle.txn_core.specs.Tables.{IsShort}
 use Rattle.txn_core.proofs.Asked.{parts_within}
 use Rattle.txn_core.proofs.Led.{Led, both_led, eq_led, settled_led, given_led, batch_led, rebuilds_led, fenced_led, fails_led}

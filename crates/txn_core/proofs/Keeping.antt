@@ -12,7 +12,7 @@ use Rattle.txn_model.specs.Coord.{decision_of, closing_of, in_parts}
 use Rattle.txn_model.specs.Topic.{marker_of}
 use Rattle.txn_model.specs.World.{has_inside}
 use Rattle.txn_model.specs.VisiblePlaces.{visible_places}
-use Rattle.txn_model.proofs.Bools.{no_true, and_l, and_r}
+use Rattle.txn_model.proofs.Laws.Tests.{no_true, and_l, and_r}
 use Rattle.txn_core.specs.declared.step.CoreRow.{CoreRow}
 use Rattle.txn_core.specs.declared.step.CoreStep.{CoreStep}
 use Rattle.txn_core.specs.declared.step.CoreStep.TheVariants as act

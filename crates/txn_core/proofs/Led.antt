@@ -7,8 +7,8 @@ use Rattle.txn_model.specs.Table.{TableState, Batch, nothing, in_coord, in_topic
 use Rattle.txn_model.specs.Drive.{Rebuilds, RebuildsAll, StaysFenced, RefusedAt}
 use Rattle.txn_model.specs.Answers.{AppendFails}
 use Rattle.txn_model.specs.Allowed.{IsWhole, LawfulState}
-use Rattle.txn_model.proofs.LawfulDrive.{Keeps, rebuilds_keeps}
-use Rattle.txn_model.proofs.Grants.{Granted}
+use Rattle.txn_model.proofs.Laws.States.{Keeps, rebuilds_keeps}
+use Rattle.txn_model.proofs.Laws.Grants.{Granted}
 use Rattle.txn_core.specs.Tables.{AreSteps, IsShort}
 use Rattle.txn_core.proofs.Moves.{same_steps, both_reach}
 use Rattle.txn_core.proofs.TableSteps.{settled_steps, fenced_steps, resolved_steps, rebuilt_steps}

@@ -32,12 +32,9 @@ use Rattle.txn_model.specs.Successes.{Success, success_of, acks_batch}
 use Rattle.txn_model.specs.Answers.{uses, with_coord, AppendFails, Fulfils, Ends, Succeeds, Answers, early, unrecovered, unread, late, granted, no_memory, no_memory_later, tick_target, tick_reply, reads_clock, moved}
 use Rattle.txn_model.specs.Replies.{Standing, RoseAt, Kind, too_long, blank, form, AnswersFrom, Replied, Replies}
 use Rattle.txn_model.specs.Allowed.{IsWhole, LawfulState}
-use Rattle.txn_model.proofs.Bools.{no_true}
-use Rattle.txn_model.proofs.LawfulSteps.{same_state}
-use Rattle.txn_model.proofs.LawfulDrive.{Keeps, all_keep, all_whole}
-use Rattle.txn_model.proofs.LawfulAnswers.{from_keeps}
-use Rattle.txn_model.proofs.Grants.{Granted, row_granted}
-use Rattle.txn_model.proofs.Refused.{rest_none, first_none, when_none, early_same}
+use Rattle.txn_model.proofs.Laws.Tests.{no_true}
+use Rattle.txn_model.proofs.Laws.States.{same_state, Keeps, all_keep, all_whole, from_keeps}
+use Rattle.txn_model.proofs.Laws.Grants.{Granted, row_granted, rest_none, first_none, when_none, early_same}
 use Rattle.txn_core.specs.Worlds.{skeletons_of, flights_of}
 use Rattle.txn_core.specs.Steps.{no_row}
 use Rattle.txn_core.specs.Kept.{resting_row, opened}

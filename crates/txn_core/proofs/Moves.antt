@@ -5,7 +5,7 @@ use Rattle.std.specs.Prelude.{nat_lt}
 use Rattle.std.proofs.lemmas.List.{append-nil, get_or-set_same, get_or-set_other, length-set}
 use Rattle.txn_base.specs.declared.core_entry.CoreEntry.{CoreEntry}
 use Rattle.txn_model.specs.Table.{TableState}
-use Rattle.txn_model.proofs.Bools.{and_l, and_r, and_both}
+use Rattle.txn_model.proofs.Laws.Tests.{and_l, and_r, and_both}
 use Rattle.txn_core.specs.declared.step.CoreRow.{CoreRow}
 use Rattle.txn_core.specs.declared.step.CoreStep.{CoreStep}
 use Rattle.txn_core.specs.declared.step.CoreStep.TheVariants as act

@@ -10,8 +10,8 @@ use Rattle.txn_base.specs.declared.entry.TopicEntry.{TopicEntry}
 use Rattle.txn_model.specs.Skeletons.{topic_skeletons}
 use Rattle.txn_model.specs.Topic.{visible_of, fitting, first_and_fitting, cut_short, read_slice}
 use Rattle.txn_model.specs.VisiblePlaces.{visible_places}
-use Rattle.txn_model.proofs.Places.{places_are}
-use Rattle.txn_model.proofs.Prefixes.{map_append}
+use Rattle.txn_model.proofs.Laws.Topics.{places_are}
+use Rattle.txn_model.proofs.Laws.Lists.{map_append}
 use Rattle.txn_core.specs.Steps.{CoreState, settled_of, from_place, told_places, can}
 use Rattle.txn_core.specs.Reads.{places_of, read_step}
 use Rattle.txn_core.proofs.Telling.{prefix_trans}

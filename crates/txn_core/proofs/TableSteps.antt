@@ -17,12 +17,10 @@ use Rattle.txn_model.specs.World.{log_of, part_skeletons, has_inside, Flights, n
 use Rattle.txn_model.specs.Table.{TableState, Batch, nothing, in_coord, in_topic, in_sub, batch_part, world_with, flights_with, flights_without, settled, fenced_by, resolved, rebuilt, is_fenced}
 use Rattle.txn_model.specs.Shape.{IsFor, is_topic, topic_parts, sub_parts}
 use Rattle.txn_model.specs.Allowed.{flight_skeletons, IsAllowed, IsWhole, LawfulState}
-use Rattle.txn_model.proofs.Prefixes.{map_append}
-use Rattle.txn_model.proofs.LawfulGrowth.{parts_stay}
-use Rattle.txn_model.proofs.Lists.{at_append}
-use Rattle.txn_model.proofs.Named.{named_part}
-use Rattle.txn_model.proofs.Parts.{numbered_within, not_both_kinds}
-use Rattle.txn_model.proofs.Grants.{topic_part, sub_part}
+use Rattle.txn_model.proofs.Laws.Lists.{map_append, at_append}
+use Rattle.txn_model.proofs.Laws.Logs.{parts_stay}
+use Rattle.txn_model.proofs.Laws.Names.{named_part, numbered_within, not_both_kinds}
+use Rattle.txn_model.proofs.Laws.Grants.{topic_part, sub_part}
 use Rattle.txn_core.specs.declared.step.CoreRow.{CoreRow}
 use Rattle.txn_core.specs.Together.{IsAlone}
 use Rattle.txn_core.specs.Steps.{CoreState, row_of, settled_of, may_start}

@@ -20,12 +20,11 @@ use Rattle.txn_model.specs.Ack.{places_allow, ack_allows, AckLawful}
 use Rattle.txn_model.specs.World.{is_inside, has_inside, log_of, part_skeletons, Lawful, Flights, no_flights, followed, kept}
 use Rattle.txn_model.specs.Allowed.{log_with, flight_skeletons, AllowedFlights}
 use Rattle.txn_model.specs.Shape.{Shaped, is_topic, parts_with}
-use Rattle.txn_model.proofs.Bools.{no_true, and_l, and_r, and_both, or_cases}
-use Rattle.txn_model.proofs.Prefixes.{map_append}
-use Rattle.txn_model.proofs.LawfulGrowth.{parts_stay}
-use Rattle.txn_model.proofs.Lists.{at_followed}
-use Rattle.txn_model.proofs.Named.{named_part}
-use Rattle.txn_model.proofs.FlightsOver.{no_flights_allowed}
+use Rattle.txn_model.proofs.Laws.Tests.{no_true, and_l, and_r, and_both, or_cases}
+use Rattle.txn_model.proofs.Laws.Lists.{map_append, at_followed}
+use Rattle.txn_model.proofs.Laws.Logs.{parts_stay}
+use Rattle.txn_model.proofs.Laws.Names.{named_part}
+use Rattle.txn_model.proofs.Laws.Worlds.{no_flights_allowed}
 use Rattle.txn_core.specs.Together.{AreLawful}
 use Rattle.txn_core.specs.Worlds.{skeletons_of, flights_of}
 use Rattle.txn_core.specs.Kept.{Stands}

@@ -1,4 +1,4 @@
-use Rattle.txn_model.proofs.Named.{few_names}
+use Rattle.txn_model.proofs.Laws.Names.{few_names}
 use Rattle.txn_core.proofs.Worlds.{world_stands, world_lawful, kept_skeletons}
 use Rattle.txn_core.proofs.laws.lawful_worlds_are_lawful_together.Goals as goal
 

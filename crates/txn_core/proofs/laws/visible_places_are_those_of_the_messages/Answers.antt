@@ -1,4 +1,4 @@
-use Rattle.txn_model.proofs.Places.{places_are}
+use Rattle.txn_model.proofs.Laws.Topics.{places_are}
 use Rattle.txn_core.proofs.Reading.{read_told, read_can}
 use Rattle.txn_core.proofs.laws.visible_places_are_those_of_the_messages.Goals as goal
 
