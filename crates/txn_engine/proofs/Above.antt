@@ -10,7 +10,7 @@ use Rattle.txn_base.specs.Decoded.{coord_entries, topic_entries}
 use Rattle.txn_base.specs.Disk.{Files, Elsewhere}
 use Rattle.txn_base.specs.Frames.{Record, Batch as FrameBatch, records, Stands}
 use Rattle.txn_base.specs.Records.{IsCoordEntry, IsCoordRecord}
-use Rattle.txn_base.proofs.Unique.{stands_one}
+use Rattle.txn_base.proofs.Laws.{stands_one}
 use Rattle.txn_ledger.specs.Ledger.{IsFile, StandsIn}
 use Rattle.txn_model.specs.declared.world.World.{World}
 use Rattle.txn_model.specs.Allowed.{IsAllowed}
@@ -19,13 +19,10 @@ use Rattle.txn_model.specs.Sound.{ledger_file, RecordsOf, StandsForEntries, IsBa
 use Rattle.txn_model.specs.Table.{Batch, in_coord, in_topic, world_with, flights_with}
 use Rattle.txn_model.specs.Words.{has, list_at}
 use Rattle.txn_model.specs.World.{Lawful, Extends, no_flights}
-use Rattle.txn_model.proofs.AppendStands.{coord_append_stands, coord_change_stands, topic_append_stands, topic_change_stands}
-use Rattle.txn_model.proofs.Chosen.{lawful_choice}
-use Rattle.txn_model.proofs.FlightsOver.{batch_choice}
-use Rattle.txn_model.proofs.Grows.{extends_both, batch_grows}
-use Rattle.txn_model.proofs.OneWorld.{records_behind}
+use Rattle.txn_model.proofs.Laws.Files.{coord_append_stands, coord_change_stands, topic_append_stands, topic_change_stands, records_behind}
+use Rattle.txn_model.proofs.Laws.Worlds.{lawful_choice, batch_choice, extends_both, batch_grows}
 use Rattle.txn_buffer.specs.View.{TopicView, batch_of}
-use Rattle.txn_coordinator.proofs.BatchRecords.{entry_records}
+use Rattle.txn_coordinator.proofs.Laws.{entry_records}
 use Rattle.txn_coordinator.specs.View.{coord_batch}
 use Rattle.txn_engine.specs.Above.{StandsAbove, KeepsAbove}
 use Rattle.txn_engine.specs.Kept.{IsEngine}

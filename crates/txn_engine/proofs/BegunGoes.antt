@@ -23,7 +23,7 @@ use Rattle.txn_model.specs.Replies.{is_fault}
 use Rattle.txn_model.specs.Successes.{success_of}
 use Rattle.txn_model.specs.Table.{Batch, in_coord}
 use Rattle.txn_model.specs.World.{Lawful}
-use Rattle.txn_model.proofs.Grants.{row_granted}
+use Rattle.txn_model.proofs.Laws.Grants.{row_granted}
 use Rattle.txn_engine.specs.Kept.{IsEngine}
 use Rattle.txn_engine.specs.Refusals.{coord_refusal, begun_reply, added_reply}
 use Rattle.txn_engine.specs.Table.{world_of}

@@ -17,8 +17,7 @@ use Rattle.txn_buffer.specs.Adding.{IsBodyWithin, AreBodies}
 use Rattle.txn_buffer.specs.View.{batch_of}
 use Rattle.txn_model.specs.EarlyRows.{are_too_big}
 use Rattle.txn_model.specs.Sound.{RecordsOf, IsBareRecord}
-use Rattle.txn_model.proofs.Decodings.{topic_of_record}
-use Rattle.txn_model.proofs.OneWorld.{entries_of}
+use Rattle.txn_model.proofs.Laws.Files.{topic_of_record, entries_of}
 
 -- ---- Copies of texts.
 

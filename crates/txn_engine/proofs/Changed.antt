@@ -11,7 +11,7 @@ use Rattle.txn_base.specs.Frames.{records, Batch as FrameBatch}
 use Rattle.txn_base.specs.Records.{IsCoordEntry}
 use Rattle.txn_model.specs.Table.{in_coord, in_topic, settled as with_batch, fenced_by}
 use Rattle.txn_model.specs.Words.{append_at, set_at, nowhere}
-use Rattle.txn_model.proofs.Decodings.{coord_decoded}
+use Rattle.txn_model.proofs.Laws.Files.{coord_decoded}
 use Rattle.txn_buffer.specs.View as topic
 use Rattle.txn_buffer.specs.View.{TopicView, batch_of, with_entries}
 use Rattle.txn_coordinator.specs.View as coordinator

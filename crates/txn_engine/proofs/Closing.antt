@@ -24,9 +24,8 @@ use Rattle.txn_model.specs.Skeletons.{coord_skeleton, coord_skeletons, topic_ske
 use Rattle.txn_model.specs.Table.{in_coord, closing_entry, closing_batch, fenced_by, settled as with_batch}
 use Rattle.txn_model.specs.Topic.{marker_of}
 use Rattle.txn_model.specs.World.{Lawful, log_of, part_skeletons}
-use Rattle.txn_model.proofs.GrantedEntries.{close_allowed}
-use Rattle.txn_model.proofs.LawfulAnswers.{closing_allowed, parts_are_named}
-use Rattle.txn_model.proofs.Statuses.{Agrees, last_by, status_by, lawful_agrees}
+use Rattle.txn_model.proofs.Laws.Grants.{close_allowed, closing_allowed, parts_are_named}
+use Rattle.txn_model.proofs.Laws.Logs.{Agrees, last_by, status_by, lawful_agrees}
 use Rattle.txn_engine.specs.Ending.{AreMarked}
 use Rattle.txn_engine.specs.Kept.{IsCoordinator, IsEngine}
 use Rattle.txn_engine.specs.Table.{table_of, world_of}

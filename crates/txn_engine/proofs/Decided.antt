@@ -32,10 +32,10 @@ use Rattle.txn_model.specs.Replies.{is_fault}
 use Rattle.txn_model.specs.Skeletons.{coord_skeleton, coord_skeletons}
 use Rattle.txn_model.specs.Table.{TableState, Batch, nothing, in_coord, decision_entry, decision_batch, settled as with_batch}
 use Rattle.txn_model.specs.World.{Lawful}
-use Rattle.txn_model.proofs.Grants.{decision_granted}
-use Rattle.txn_model.proofs.Prefixes.{map_append, first_of-append}
-use Rattle.txn_model.proofs.Statuses.{Agrees, last_by, status_by, open_means, lawful_agrees}
-use Rattle.txn_coordinator.proofs.Entry.{same_itself, in_parts-push}
+use Rattle.txn_model.proofs.Laws.Grants.{decision_granted}
+use Rattle.txn_model.proofs.Laws.Lists.{map_append, first_of-append}
+use Rattle.txn_model.proofs.Laws.Logs.{Agrees, last_by, status_by, open_means, lawful_agrees}
+use Rattle.txn_coordinator.proofs.Laws.{same_itself, in_parts-push}
 use Rattle.txn_engine.specs.Ending.{end_of, IsReady, IsGranted}
 use Rattle.txn_engine.specs.Kept.{IsEngine, IsCoordinator}
 use Rattle.txn_engine.specs.Refusals.{coord_refusal}

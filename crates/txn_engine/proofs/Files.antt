@@ -4,7 +4,7 @@ use Rattle.txn_base.specs.declared.file_id.FileId.{FileId}
 use Rattle.txn_base.specs.Content.{LedgerContent, Appends}
 use Rattle.txn_base.specs.Disk.{Files, Elsewhere, Since, Changes, Same}
 use Rattle.txn_base.specs.Frames.{Batch}
-use Rattle.txn_base.proofs.Moments.{goes_on, weaker}
+use Rattle.txn_base.proofs.Laws.{goes_on, weaker}
 use Rattle.txn_ledger.specs.Ledger.{IsFile, StandsIn}
 use Rattle.txn_model.specs.Sound.{ledger_file}
 use Rattle.txn_engine.specs.Files.{OnlyLedgers}

@@ -11,7 +11,7 @@ use Rattle.txn_base.specs.Disk.{Files, Elsewhere, Since, CountsFaults}
 use Rattle.txn_base.specs.Frames.{Batch as FrameBatch, records, Stands}
 use Rattle.txn_base.specs.Outside.{Rose}
 use Rattle.txn_base.specs.Records.{IsCoordEntry}
-use Rattle.txn_base.proofs.Moments.{weaker, goes_on, started}
+use Rattle.txn_base.proofs.Laws.{weaker, goes_on, started}
 use Rattle.txn_ledger.specs.Ledger.{IsFile, StandsIn}
 use Rattle.txn_model.specs.Allowed.{IsAllowed}
 use Rattle.txn_model.specs.Sound.{ledger_file, RecordsOf, IsBareRecord}

@@ -14,9 +14,7 @@ use Rattle.txn_model.specs.declared.world.World.{World}
 use Rattle.txn_model.specs.Shape.{topic_parts}
 use Rattle.txn_model.specs.Sound.{ledger_file, StandsForEntries, StandsForEither, IsBareRecord, StandsFor, StandsForKept}
 use Rattle.txn_model.specs.Words.{has, list_at}
-use Rattle.txn_model.proofs.Decodings.{coord_of, topic_of_record}
-use Rattle.txn_model.proofs.KeptStands.{ledgers_stand}
-use Rattle.txn_model.proofs.OneWorld.{entries_of_batches}
+use Rattle.txn_model.proofs.Laws.Files.{coord_of, topic_of_record, ledgers_stand, entries_of_batches}
 use Rattle.txn_buffer.specs.View.{TopicView}
 use Rattle.txn_engine.specs.Kept.{IsEngine}
 use Rattle.txn_engine.specs.Table.{coord_flight, topic_flight, lists_from, flights_from, world_of, table_of}

@@ -15,7 +15,7 @@ use Rattle.txn_model.specs.Skeletons.{coord_skeletons, topic_skeletons}
 use Rattle.txn_model.specs.Table.{is_fenced, marker_batch, marked, fenced_by}
 use Rattle.txn_model.specs.Topic.{marker_of}
 use Rattle.txn_model.specs.World.{part_skeletons}
-use Rattle.txn_model.proofs.Named.{few_names}
+use Rattle.txn_model.proofs.Laws.Names.{few_names}
 use Rattle.txn_engine.specs.Ending.{AreReady, AreMarked, IsElsewhere}
 use Rattle.txn_engine.specs.Kept.{IsEngine}
 use Rattle.txn_engine.specs.Table.{table_of, unrebuilt_from}

@@ -26,7 +26,7 @@ use Rattle.txn_engine.specs.View.{EngineView, IsWhole, IsTied, IsBacked, with_to
 use Rattle.txn_engine.proofs.Decided.{on_ok, by_result}
 use Rattle.txn_engine.proofs.Going.{goes_still, topic_goes}
 use Rattle.txn_engine.proofs.Lists.{never_below, set_is, all_replaced, at_index}
-use Rattle.txn_buffer.proofs.BatchRecords.{marker_records}
+use Rattle.txn_buffer.proofs.Laws.{marker_records}
 use Rattle.txn_engine.proofs.Marks.{skeletons_at, stood_table, marked_table, marker_fenced, marker_allowed}
 use Rattle.txn_engine.proofs.Published.{added_topic, fenced_topic, engine_topics, put_back}
 use Rattle.txn_engine.proofs.Reading.{IsAt, at_place, is_topic_at}

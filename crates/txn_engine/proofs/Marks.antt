@@ -5,7 +5,7 @@ use Rattle.std.proofs.lemmas.Bool.Decides.{nat_tests}
 use Rattle.txn_base.specs.Content.{LedgerContent, settled, Appends, Backed}
 use Rattle.txn_base.specs.Disk.{Files, Since}
 use Rattle.txn_base.specs.Frames.{Batch as FrameBatch}
-use Rattle.txn_base.proofs.Moments.{started}
+use Rattle.txn_base.proofs.Laws.{started}
 use Rattle.txn_ledger.specs.Ledger.{IsFile, StandsIn}
 use Rattle.txn_base.specs.Names.{is_sub, is_topic_name}
 use Rattle.txn_base.specs.Records.{IsTxnId}
@@ -13,7 +13,7 @@ use Rattle.txn_base.specs.declared.entry.TopicEntry.{TopicEntry}
 use Rattle.txn_base.specs.declared.txn.TxnId.{TxnId}
 use Rattle.txn_base.specs.declared.txn.Decision.{Decision}
 use Rattle.txn_base.specs.declared.txn.Decision.TheVariants.{Commit, Abort}
-use Rattle.txn_buffer.proofs.BatchRecords.{marker_records}
+use Rattle.txn_buffer.proofs.Laws.{marker_records}
 use Rattle.txn_buffer.specs.View as topic
 use Rattle.txn_buffer.specs.View.{TopicView, batch_of, with_entries}
 use Rattle.txn_model.specs.Allowed.{IsAllowed}
@@ -24,8 +24,7 @@ use Rattle.txn_model.specs.Table.{Batch, nothing, in_topic, topic_marker, marker
 use Rattle.txn_model.specs.Topic.{marker_of}
 use Rattle.txn_model.specs.Words.{nowhere}
 use Rattle.txn_model.specs.World.{Lawful, part_skeletons}
-use Rattle.txn_model.proofs.Grants.{topic_part}
-use Rattle.txn_model.proofs.LawfulMarks.{marker_granted}
+use Rattle.txn_model.proofs.Laws.Grants.{topic_part, marker_granted}
 use Rattle.txn_records.specs.Topics.{marker_of as marker_entry}
 use Rattle.txn_engine.specs.Kept.{IsEngine}
 use Rattle.txn_engine.specs.Table.{table_of, world_of}

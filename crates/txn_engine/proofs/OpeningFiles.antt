@@ -8,8 +8,7 @@ use Rattle.txn_base.specs.Content.{LedgerContent, Standing, settled, in_flight, 
 use Rattle.txn_base.specs.Disk.{Files, Elsewhere, Since, Changes, CountsFaults}
 use Rattle.txn_base.specs.Frames.{Batch, Stands, IsDamagedAt}
 use Rattle.txn_base.specs.Outside.{Rose}
-use Rattle.txn_base.proofs.Moments.{goes_on, weaker}
-use Rattle.txn_base.proofs.Unique.{stands_one, stands_not_damaged}
+use Rattle.txn_base.proofs.Laws.{goes_on, weaker, stands_one, stands_not_damaged}
 use Rattle.txn_ledger.specs.Found.{KeepsList, KeepsDamaged}
 use Rattle.txn_ledger.specs.Ledger.{IsFile, StandsIn}
 use Rattle.txn_model.specs.Sound.{ledger_file, part_file, StandsForEntries}

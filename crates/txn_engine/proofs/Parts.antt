@@ -12,7 +12,7 @@ use Rattle.txn_model.specs.Drive.{Rebuilds, MarksAll, StopsAt, StopsWithin}
 use Rattle.txn_model.specs.Skeletons.{same_txn}
 use Rattle.txn_model.specs.Table.{TableState, marked}
 use Rattle.txn_model.specs.Words.{all_follow, numbers_from}
-use Rattle.txn_model.proofs.Bools.{no_true, and_l, and_r, or_cases}
+use Rattle.txn_model.proofs.Laws.Tests.{no_true, and_l, and_r, or_cases}
 
 -- ---- A part has a number among the names.
 

@@ -14,7 +14,7 @@ use Rattle.txn_base.specs.declared.reply.Refusal.TheVariants as no
 use Rattle.txn_base.specs.Content.{LedgerContent, KeptOrNot, Backed}
 use Rattle.txn_base.specs.Disk.{Files, Same, Since, CountsFaults}
 use Rattle.txn_base.specs.Outside.{Rose}
-use Rattle.txn_base.proofs.Moments.{weaker}
+use Rattle.txn_base.proofs.Laws.{weaker}
 use Rattle.txn_ledger.specs.Ledger.{StandsIn}
 use Rattle.txn_model.specs.Answers.{Answers}
 use Rattle.txn_model.specs.Names.{part_of}

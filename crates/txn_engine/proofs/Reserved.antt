@@ -8,7 +8,7 @@ use Rattle.txn_buffer.specs.View.{TopicView}
 use Rattle.txn_coordinator.specs.View.{CoordView, reserving}
 use Rattle.txn_model.specs.Coord.{in_parts}
 use Rattle.txn_model.specs.Skeletons.{coord_skeletons}
-use Rattle.txn_model.proofs.Named.{few_names}
+use Rattle.txn_model.proofs.Laws.Names.{few_names}
 use Rattle.txn_engine.specs.Ending.{AreSameTopics, IsSameBut, AreReady, IsReady, IsElsewhere}
 use Rattle.txn_engine.specs.Kept.{IsEngine}
 use Rattle.txn_engine.specs.View.{EngineView, IsWhole, with_coord, with_topics, replaced}

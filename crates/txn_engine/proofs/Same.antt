@@ -11,7 +11,7 @@ use Rattle.txn_base.specs.declared.reply.Refusal.TheVariants as no
 use Rattle.txn_base.specs.Content.{Backed}
 use Rattle.txn_base.specs.Decoded.{coord_entries, topic_entries}
 use Rattle.txn_base.specs.Disk.{Files}
-use Rattle.txn_base.proofs.Moments.{started}
+use Rattle.txn_base.proofs.Laws.{started}
 use Rattle.txn_base.specs.Limits.{InRange}
 use Rattle.txn_base.specs.Names.{is_topic_name}
 use Rattle.txn_buffer.specs.Ending.{with_reserved}

@@ -27,8 +27,8 @@ use Rattle.txn_model.specs.Skeletons.{coord_skeletons, topic_skeletons}
 use Rattle.txn_model.specs.Topic.{marker_of, limit_of, read_slice}
 use Rattle.txn_model.specs.Words.{when, that, list_at}
 use Rattle.txn_model.specs.World.{part_skeletons}
-use Rattle.txn_model.proofs.Grants.{topic_part}
-use Rattle.txn_model.proofs.Named.{known}
+use Rattle.txn_model.proofs.Laws.Grants.{topic_part}
+use Rattle.txn_model.proofs.Laws.Names.{known}
 use Rattle.txn_engine.specs.Kept.{IsEngine}
 use Rattle.txn_engine.specs.Publishing.{foreign, why_not_by, why_not_in, why_refusal}
 use Rattle.txn_engine.specs.View.{EngineView}

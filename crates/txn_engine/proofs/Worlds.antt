@@ -16,10 +16,8 @@ use Rattle.txn_model.specs.declared.world.World.{World}
 use Rattle.txn_model.specs.Shape.{numbered, is_topic, topic_parts, sub_parts, parts_with, Shaped}
 use Rattle.txn_model.specs.Sound.{ledger_file, StandsForEntries, IsBareRecord, StandsFor}
 use Rattle.txn_model.specs.Words.{has, list_at}
-use Rattle.txn_model.proofs.Decodings.{coord_of, topic_of_record}
-use Rattle.txn_model.proofs.OneWorld.{stands_for_one, entries_of_batches}
-use Rattle.txn_model.proofs.Named.{numbered_has}
-use Rattle.txn_model.proofs.Parts.{numbered_within}
+use Rattle.txn_model.proofs.Laws.Files.{coord_of, topic_of_record, stands_for_one, entries_of_batches}
+use Rattle.txn_model.proofs.Laws.Names.{numbered_has, numbered_within}
 use Rattle.txn_buffer.specs.View.{TopicView}
 use Rattle.txn_engine.specs.Kept.{IsEngine}
 use Rattle.txn_engine.specs.Table.{lists_from, world_of}

@@ -8,7 +8,7 @@ use Rattle.txn_model.specs.Full.{full_log}
 use Rattle.txn_model.specs.Names.{part_of}
 use Rattle.txn_model.specs.Coord.{status_of}
 use Rattle.txn_model.specs.Skeletons.{coord_skeletons}
-use Rattle.txn_model.proofs.Named.{few_names}
+use Rattle.txn_model.proofs.Laws.Names.{few_names}
 use Rattle.txn_coordinator.specs.Calls.{has_part}
 use Rattle.txn_coordinator.specs.View.{length_of}
 use Rattle.txn_engine.proofs.AtView.{told_at, tell_at, goes_at, goes_for}

@@ -2,7 +2,7 @@ use Rattle.std.proofs.Common.{◌≡◌, ℕ, ◌≤◌, List, length, Err, refl
 use Rattle.std.proofs.lemmas.Result.{err_from_is_err_and}
 use Rattle.txn_base.specs.Disk.{Since}
 use Rattle.txn_model.specs.Sound.{ledger_file}
-use Rattle.txn_model.proofs.Named.{few_names}
+use Rattle.txn_model.proofs.Laws.Names.{few_names}
 use Rattle.txn_coordinator.specs.View.{CoordView}
 use Rattle.txn_engine.specs.declared.opening.EngineError.TheVariants as engine
 use Rattle.txn_engine.specs.Files.{OnlyLedgers}

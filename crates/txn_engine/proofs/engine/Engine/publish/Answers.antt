@@ -12,9 +12,9 @@ use Rattle.txn_engine.specs.Told.{IsTellable, RoseFor}
 use Rattle.txn_engine.specs.View.{IsWhole, IsTied, IsBacked, EngineView}
 use Rattle.txn_model.specs.EarlyRows.{are_too_big}
 use Rattle.txn_model.specs.Names.{part_of}
-use Rattle.txn_model.proofs.Named.{few_names}
+use Rattle.txn_model.proofs.Laws.Names.{few_names}
 use Rattle.txn_engine.proofs.AtView.{told_both, tell_at, told_to, goes_to}
-use Rattle.txn_buffer.proofs.BatchRecords.{batch_records}
+use Rattle.txn_buffer.proofs.Laws.{batch_records}
 use Rattle.txn_engine.proofs.Bodies.{are_bodies, entries_back, count_of}
 use Rattle.txn_engine.proofs.Damage.{unknown_sound, why_sound, published_sound}
 use Rattle.txn_engine.proofs.Published.{unknown_publish_told, foreign_publish_told, big_told, why_tellable, publish_tellable, published_told}
