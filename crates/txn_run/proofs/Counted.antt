@@ -3,7 +3,7 @@ use Rattle.std.proofs.Common.{ℕ, ◌+◌, ◌-◌, ◌^◌, ◌≤◌, min, ar
 use Rattle.txn_base.specs.declared.limits.Limits.{Limits}
 use Rattle.txn_model.specs.Cut.{whole_lines, lines_of}
 use Rattle.txn_model.specs.Replies.{Standing, count_faults}
-use Rattle.txn_model.proofs.Faults.{replies_paid}
+use Rattle.txn_model.proofs.Laws.Replies.{replies_paid}
 use Rattle.txn_run.specs.Kinds.{line_kinds}
 use Rattle.txn_run.specs.Run.{Ended, replies_in}
 use Rattle.txn_run.specs.declared.status.RunStatus.{RunStatus}

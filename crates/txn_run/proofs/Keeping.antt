@@ -2,7 +2,7 @@
 use Rattle.std.proofs.Common.{◌≡◌, ◌≤◌, ℕ, List, length, subst, refl, arith, ◌∙◌}
 use Rattle.txn_base.specs.Disk.{Files, Since}
 use Rattle.txn_base.specs.Outside.{Rose}
-use Rattle.txn_base.proofs.Moments.{started, goes_on}
+use Rattle.txn_base.proofs.Laws.{started, goes_on}
 use Rattle.txn_engine.specs.Above.{KeepsAboveIf}
 use Rattle.txn_engine.specs.Files.{OnlyLedgers}
 use Rattle.txn_engine.specs.Opening.{KeepsLists}

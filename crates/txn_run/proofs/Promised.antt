@@ -14,10 +14,9 @@ use Rattle.txn_model.specs.Skeletons.{coord_skeleton, coord_skeletons, topic_ske
 use Rattle.txn_model.specs.World.{Lawful, Extends, log_of, part_skeletons}
 use Rattle.txn_model.specs.Words.{list_at}
 use Rattle.txn_model.specs.Topic.{visible_of, limit_of, marker_of}
-use Rattle.txn_model.proofs.Below.{visible_below}
-use Rattle.txn_model.proofs.LawfulGrowth.{decision_stays}
-use Rattle.txn_model.proofs.Prefixes.{map_append, visible_longer, limit_longer}
-use Rattle.txn_model.proofs.Statuses.{undecided_before}
+use Rattle.txn_model.proofs.Laws.Topics.{visible_below, visible_longer, limit_longer}
+use Rattle.txn_model.proofs.Laws.Logs.{decision_stays, undecided_before}
+use Rattle.txn_model.proofs.Laws.Lists.{map_append}
 use Rattle.txn_engine.specs.Above.{StandsAbove}
 use Rattle.txn_run.proofs.Effects.{all_effects}
 use Rattle.txn_run.specs.Promises.{Promises, NeverLapses, KeepsPromises}

@@ -2,12 +2,12 @@
 use Rattle.std.proofs.Common.{◌≡◌, ℕ, List, [], ◌∷◌, Option, Result, Ok, refl, sym, ap, ◌∙◌, subst}
 use Rattle.txn_base.specs.Disk.{Files, Since}
 use Rattle.txn_base.specs.declared.file_id.FileId.{FileId}
-use Rattle.txn_base.proofs.Moments.{weaker, goes_on}
+use Rattle.txn_base.proofs.Laws.{weaker, goes_on}
 use Rattle.txn_model.specs.declared.world.World.{World}
 use Rattle.txn_model.specs.Opening.{table_over}
 use Rattle.txn_model.specs.Sound.{StandsFor}
 use Rattle.txn_model.specs.Table.{TableState}
-use Rattle.txn_model.proofs.Grows.{extends_same}
+use Rattle.txn_model.proofs.Laws.Worlds.{extends_same}
 use Rattle.txn_engine.specs.Above.{StandsAbove, KeepsAbove, KeepsAboveIf}
 use Rattle.txn_engine.specs.Kept.{IsEngine}
 use Rattle.txn_engine.specs.Opening.{KeepsWorld}
@@ -15,7 +15,7 @@ use Rattle.txn_engine.specs.Table.{table_of}
 use Rattle.txn_engine.specs.View.{EngineView, IsBacked}
 use Rattle.txn_engine.specs.declared.opening.EngineError.{EngineError}
 use Rattle.txn_engine.specs.declared.opening.EngineError.TheVariants as engine_error
-use Rattle.txn_engine.proofs.Left.{left_kept}
+use Rattle.txn_engine.proofs.Laws.{left_kept}
 use Rattle.txn_run.specs.Before.{IsSoundBefore}
 use Rattle.txn_run.specs.Going.{standing}
 use Rattle.txn_run.specs.Run.{Leaves, IsEarly, IsAnswered, first_standing}

@@ -13,22 +13,21 @@ use Rattle.txn_base.specs.Disk.{Files}
 use Rattle.txn_base.specs.Frames.{Record, Batch, records}
 use Rattle.txn_base.specs.Names.{is_topic_name}
 use Rattle.txn_base.specs.Records.{IsCoordRecord}
-use Rattle.txn_base.proofs.Unique.{stands_one, stands_not_damaged}
-use Rattle.txn_records.proofs.Topics.{topic_again}
+use Rattle.txn_base.proofs.Laws.{stands_one, stands_not_damaged}
+use Rattle.txn_records.proofs.Laws.{topic_again}
 use Rattle.txn_model.specs.Coord.{coord_allows, CoordLawful}
 use Rattle.txn_model.specs.Shape.{is_topic, topic_parts}
 use Rattle.txn_model.specs.Skeletons.{coord_skeleton, coord_skeletons, topic_skeleton}
 use Rattle.txn_model.specs.Sound.{ledger_file, RecordsOf, IsBareRecord}
 use Rattle.txn_model.specs.Topic.{part_allows, TopicLawful}
 use Rattle.txn_model.specs.Words.{all_follow, IsLawfulBy, has}
-use Rattle.txn_model.proofs.Decodings.{coord_of, topic_of_record}
-use Rattle.txn_model.proofs.Named.{numbered_has}
-use Rattle.txn_model.proofs.OneWorld.{entries_of}
-use Rattle.txn_model.proofs.Prefixes.{all_follow-append}
+use Rattle.txn_model.proofs.Laws.Files.{coord_of, topic_of_record, entries_of}
+use Rattle.txn_model.proofs.Laws.Names.{numbered_has}
+use Rattle.txn_model.proofs.Laws.Lists.{all_follow-append}
 use Rattle.txn_buffer.specs.Mending.{IsBad}
 use Rattle.txn_buffer.specs.Record.{IsInGrammar}
 use Rattle.txn_engine.specs.Opening.{IsLog, IsTopicLedger, IsDamagedLog, IsDamagedTopic, IsPart, IsDamagedPart, AreParts, IsFirstDamage}
-use Rattle.txn_engine.proofs.TopicNames.{not_sub}
+use Rattle.txn_engine.proofs.Laws.{not_sub}
 use Rattle.txn_run.specs.Before.{IsSoundBefore}
 
 -- ---- An entry of a lawful list is allowed.

@@ -3,7 +3,7 @@ use Rattle.txn_model.specs.declared.world.World.{World}
 use Rattle.txn_engine.specs.Above.{StandsAbove, KeepsAbove}
 use Rattle.txn_engine.specs.Opening.{AreParts, IsPartFile, IsFirstDamage}
 use Rattle.txn_base.specs.Disk.{Since}
-use Rattle.txn_base.proofs.Moments.{at_any_moment}
+use Rattle.txn_base.proofs.Laws.{at_any_moment}
 use Rattle.txn_run.specs.Files.{LeavesOthers}
 use Rattle.txn_run.specs.Run.{RunOf}
 use Rattle.txn_run.specs.Words.{command_of}

@@ -1,7 +1,7 @@
 use Rattle.std.proofs.Common.{◌≡◌, ◌∙◌, true, ℕ, List, [], ◌∷◌, ◌++◌, refl, sym, ap, subst}
 use Rattle.txn_base.specs.Names.{is_topic_name}
 use Rattle.txn_model.specs.Names.{NamesLawful}
-use Rattle.txn_engine.proofs.TopicNames.{not_sub}
+use Rattle.txn_engine.proofs.Laws.{not_sub}
 use Rattle.txn_run.proofs.words.names_of.Goals as goal
 
 one_lawful : (name : List ℕ) → is_topic_name name ≡ true → NamesLawful (name ∷ [])
