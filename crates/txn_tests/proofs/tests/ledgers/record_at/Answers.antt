@@ -1,4 +1,4 @@
-use Rattle.txn_buffer.proofs.OnlyReading.{begins_with}
+use Rattle.txn_buffer.proofs.Laws.{begins_with}
 use Rattle.txn_tests.proofs.tests.ledgers.record_at.Goals as goal
 
 pub get-requires-clause-reads : goal.get-requires-clause-reads
