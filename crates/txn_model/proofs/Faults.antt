@@ -1,14 +1,12 @@
 -- Each reply that tells of a fault was paid by a rise of the count of faults.
-use Rattle.std.proofs.Common.{◌≡◌, ◌⊎◌, inl, inr, ℕ, ◌+◌, ◌-◌, ◌^◌, ◌≤◌, min, arith, zero-add, cond, Bool, true, false, List, [], ◌∷◌, Some, None, refl, sym, ap, ◌∙◌, subst}
+use Rattle.std.proofs.Common.{◌≡◌, inl, inr, ℕ, ◌+◌, ◌-◌, ◌^◌, ◌≤◌, min, arith, zero-add, cond, Bool, true, false, List, [], ◌∷◌, Some, None, refl, sym, ap, ◌∙◌, subst}
 use Rattle.std.proofs.lemmas.List.Sums.{sum_by-append}
-use Rattle.std.specs.Prelude.{Option, MatchOption, option_map}
+use Rattle.std.specs.Prelude.{Option, option_map}
 use Rattle.std.specs.List.{list_all}
 use Rattle.txn_base.specs.declared.limits.Limits.{Limits}
 use Rattle.txn_base.specs.declared.txn.TxnId.{TxnId}
 use Rattle.txn_base.specs.declared.txn.Decision.{Decision}
-use Rattle.txn_base.specs.declared.txn.Decision.TheVariants.{Commit, Abort}
 use Rattle.txn_base.specs.declared.request.Request.{Request}
-use Rattle.txn_base.specs.declared.request.Request.TheVariants as request
 use Rattle.txn_base.specs.declared.reply.Reply.{Reply}
 use Rattle.txn_base.specs.declared.reply.Reply.TheVariants as reply
 use Rattle.txn_base.specs.declared.reply.Outcome.{Outcome}
@@ -27,11 +25,12 @@ use Rattle.txn_model.specs.EarlyRows as early_row
 use Rattle.txn_model.specs.EarlyRows.{early_rows, early_refusal}
 use Rattle.txn_model.specs.LateRows as late_row
 use Rattle.txn_model.specs.LateRows.{late_rows, late_refusal}
-use Rattle.txn_model.specs.Successes.{Success, success_of}
+use Rattle.txn_model.specs.Successes.{success_of}
 use Rattle.txn_model.specs.Drive.{StopsAt, recovery_fault, recovery_memory, marker_memory, marker_fault, StopsWithin, Drives, already, closes, close_fault, stops}
-use Rattle.txn_model.specs.Answers.{AppendFails, Fulfils, Ends, Succeeds, Answers, early, unrecovered, unread, late, granted, no_memory, no_memory_later, tick_target, tick_reply, moved}
+use Rattle.txn_model.specs.Answers.{Answers, early, unrecovered, unread, late, granted, no_memory, no_memory_later, tick_reply, moved}
 use Rattle.txn_model.specs.Replies.{is_fault_why, is_stopped, is_fault, count_faults, Standing, RoseAt, Kind, too_long, blank, form, AnswersFrom, Replied, Replies}
 use Rattle.txn_model.proofs.Bools.{no_true, and_l, and_both}
+use Rattle.txn_model.proofs.Moves.{Way, by_row, is_idle, by_end, way}
 
 -- a row that is none, or tells of no fault
 abbrev safe : Option Refusal → Bool
@@ -103,22 +102,6 @@ late_safe limits t r =
     (and_both _ _ (safe_map (λ count. no.Full Log count) (late_row.log_in limits t.world r) (λ a. refl))
     (and_both _ _ (safe_when (late_row.has_nothing limits t r) no.Empty refl) refl)))))))))
 
--- the row of a request that isn't refused tells of no fault
-success_safe : (limits : Limits) (t : TableState) (r : Request) → is_fault (success_of limits t r).reply ≡ false
-success_safe limits t (request.New timeout) = refl
-success_safe limits t (request.Add x part) = refl
-success_safe limits t (request.Publish topic who bodies) = refl
-success_safe limits t (request.Ack sub who places) = refl
-success_safe limits t (request.AckUpTo sub who place) = refl
-success_safe limits t (request.Commit x) = refl
-success_safe limits t (request.Abort x) = refl
-success_safe limits t (request.Status x) = refl
-success_safe limits t (request.Read topic first max) = refl
-success_safe limits t (request.Receive sub max) = refl
-success_safe limits t (request.Redeliver sub) = refl
-success_safe limits t request.Tick = refl
-success_safe limits t request.Stop = refl
-
 clash : {b : Bool} → b ≡ false → b ≡ true → ⊥
 clash e h = no_true (sym e ∙ h)
 
@@ -146,34 +129,12 @@ module _ (rose : ℕ → Type 0) where
   drives_paid x t outcome t' (close_fault d c k mid m z o s) f = (0, z)
   drives_paid x t outcome t' (stops d c k p reason h o) f = stops_paid x d (parts_of (log_of t.world) x) p t reason t' h (sym (ap (λ u. is_stopped u.stuck) o) ∙ f)
 
-  row_paid : (s : Success) (t : TableState) (r : Request) (told : Reply) (t' : TableState) → is_fault s.reply ≡ false → Fulfils s t told t' ⊎ AppendFails rose s.adds t told t' → is_fault told ≡ true → (q : ℕ) × rose q
-  row_paid s t r told t' e (inl h) f = absurd (told_clash told s.reply h.0 e f)
-  row_paid s t r told t' e (inr h) f = (h.0, h.2)
-
-  tick_paid : (t : TableState) (o : Option TxnId) (told : Reply) (t' : TableState)
-      → MatchOption o ((told ≡ tick_reply t None) × (t' ≡ t))
-      (λ x. ((outcome : Outcome) × Ends rose t x Abort outcome t' × (told ≡ tick_reply t' (Some (x, outcome)))) ⊎ AppendFails rose (decision_batch t x Abort) t told t')
-      → is_fault told ≡ true → (q : ℕ) × rose q
-  tick_paid t None told t' h f = absurd (told_clash told (tick_reply t None) h.0 refl f)
-  tick_paid t (Some x) told t' (inl h) f = drives_paid x (settled (decision_batch t x Abort) t) h.0 t' h.1 (sym (ap is_fault h.2) ∙ f)
-  tick_paid t (Some x) told t' (inr h) f = (h.0, h.2)
-
-  success_paid : (limits : Limits) (t : TableState) (r : Request) (told : Reply) (t' : TableState) → Succeeds limits rose t r told t' → is_fault told ≡ true → (q : ℕ) × rose q
-  success_paid limits t (request.Commit x) told t' (inl h) f = drives_paid x (settled (decision_batch t x Commit) t) h.0 t' h.1 (sym (ap is_fault h.2) ∙ f)
-  success_paid limits t (request.Commit x) told t' (inr h) f = (h.0, h.2)
-  success_paid limits t (request.Abort x) told t' (inl h) f = drives_paid x (settled (decision_batch t x Abort) t) h.0 t' h.1 (sym (ap is_fault h.2) ∙ f)
-  success_paid limits t (request.Abort x) told t' (inr h) f = (h.0, h.2)
-  success_paid limits t request.Tick told t' h f = tick_paid t (tick_target t) told t' h f
-  success_paid limits t (request.New timeout) told t' h f = row_paid (success_of limits t (request.New timeout)) t (request.New timeout) told t' (success_safe limits t (request.New timeout)) h f
-  success_paid limits t (request.Add x part) told t' h f = row_paid (success_of limits t (request.Add x part)) t (request.Add x part) told t' (success_safe limits t (request.Add x part)) h f
-  success_paid limits t (request.Publish topic who bodies) told t' h f = row_paid (success_of limits t (request.Publish topic who bodies)) t (request.Publish topic who bodies) told t' (success_safe limits t (request.Publish topic who bodies)) h f
-  success_paid limits t (request.Ack sub who places) told t' h f = row_paid (success_of limits t (request.Ack sub who places)) t (request.Ack sub who places) told t' (success_safe limits t (request.Ack sub who places)) h f
-  success_paid limits t (request.AckUpTo sub who place) told t' h f = row_paid (success_of limits t (request.AckUpTo sub who place)) t (request.AckUpTo sub who place) told t' (success_safe limits t (request.AckUpTo sub who place)) h f
-  success_paid limits t (request.Status x) told t' h f = row_paid (success_of limits t (request.Status x)) t (request.Status x) told t' (success_safe limits t (request.Status x)) h f
-  success_paid limits t (request.Read topic first max) told t' h f = row_paid (success_of limits t (request.Read topic first max)) t (request.Read topic first max) told t' (success_safe limits t (request.Read topic first max)) h f
-  success_paid limits t (request.Receive sub max) told t' h f = row_paid (success_of limits t (request.Receive sub max)) t (request.Receive sub max) told t' (success_safe limits t (request.Receive sub max)) h f
-  success_paid limits t (request.Redeliver sub) told t' h f = row_paid (success_of limits t (request.Redeliver sub)) t (request.Redeliver sub) told t' (success_safe limits t (request.Redeliver sub)) h f
-  success_paid limits t request.Stop told t' h f = row_paid (success_of limits t request.Stop) t request.Stop told t' (success_safe limits t request.Stop) h f
+  way_paid : (limits : Limits) (t : TableState) (r : Request) (told : Reply) (t' : TableState) → Way limits rose t r told t' → is_fault told ≡ true → (q : ℕ) × rose q
+  way_paid limits t r told t' (by_row plain quiet (inl h)) f = absurd (told_clash told (success_of limits t r).reply h.0 quiet f)
+  way_paid limits t r told t' (by_row plain quiet (inr h)) f = (h.0, h.2)
+  way_paid limits t r told t' (is_idle plain o s) f = absurd (told_clash told (tick_reply t None) o refl f)
+  way_paid limits t r told t' (by_end x d say quiet plain u (inl h)) f = drives_paid x (settled (decision_batch t x d) t) h.0 t' h.1 (sym (ap (λ o. is_fault o.0) h.2 ∙ quiet (h.0, t')) ∙ f)
+  way_paid limits t r told t' (by_end x d say quiet plain u (inr h)) f = (h.0, h.2)
 
   -- a reply that tells of a fault comes only where the count of some part rose
   pub answers_paid : (limits : Limits) (t : TableState) (r : Request) (told : Reply) (t' : TableState) → Answers limits rose t r told t' → is_fault told ≡ true → (q : ℕ) × rose q
@@ -183,7 +144,7 @@ module _ (rose : ℕ → Type 0) where
   answers_paid limits t r told t' (unread h mid w g) f = (g.0, g.2)
   answers_paid limits t r told t' (late h w row k o) f =
       absurd (told_clash told (reply.No row) o (safe_tells row (first_safe (late_rows limits t' r) row (late_safe limits t' r) k)) f)
-  answers_paid limits t r told t' (granted h mid w k g) f = success_paid limits mid r told t' g f
+  answers_paid limits t r told t' (granted h mid w k g) f = way_paid limits mid r told t' (way limits rose mid r told t' g) f
   answers_paid limits t r told t' (no_memory o s) f = absurd (told_clash told (reply.No no.NoMemory) o refl f)
   answers_paid limits t r told t' (no_memory_later h o w) f = absurd (told_clash told (reply.No no.NoMemory) o refl f)
 

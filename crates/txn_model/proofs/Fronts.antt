@@ -1,12 +1,8 @@
--- The front of a lawful list is lawful, and the first entry that isn't allowed is found.
+-- The first entry of a list that isn't allowed is found.
 use Rattle.std.proofs.Common.{◌≡◌, ℕ, suc, ◌+◌, ◌<◌, arith, Bool, true, false, ◌&&◌, if◌then◌else◌, List, [], ◌∷◌, ◌++◌, length, take, Some, None, refl, sym, ap, ◌∙◌, subst}
 use Rattle.std.specs.Prelude.{Option, MatchOption}
 use Rattle.txn_model.specs.Words.{all_follow, IsLawfulBy, first_bad_from, first_bad, IsFirstBad}
-use Rattle.txn_model.proofs.Bools.{no_true, and_l, and_both}
-use Rattle.txn_model.proofs.Prefixes.{all_follow-append}
-
-pub front_lawful : {E : Type 0} (allows : List E → E → Bool) (xs more : List E) → IsLawfulBy allows (xs ++ more) → IsLawfulBy allows xs
-front_lawful allows xs more h = and_l (all_follow allows [] xs) (all_follow allows ([] ++ xs) more) (sym (all_follow-append allows [] xs more) ∙ h)
+use Rattle.txn_model.proofs.Bools.{no_true, and_both}
 
 -- the place that is found, from k on
 abbrev FoundFrom : {E : Type 0} → (List E → E → Bool) → List E → ℕ → List E → Option ℕ → Type 0

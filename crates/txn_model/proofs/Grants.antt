@@ -37,8 +37,6 @@ use Rattle.txn_model.proofs.Bools.{no_true, and_both}
 use Rattle.txn_model.proofs.Statuses.{txn_equal}
 use Rattle.txn_model.proofs.Granted.{these_allowed, plain_upto_allowed, hold_upto_allowed}
 use Rattle.txn_model.proofs.GrantedEntries.{new_allowed, messages_allowed, plain_allowed}
-use Rattle.txn_model.proofs.PlainTopics.{marker_beside, inside_beside}
-use Rattle.txn_model.proofs.PlainGrowth.{plain_entries}
 use Rattle.txn_model.proofs.Named.{Known, named_part}
 use Rattle.txn_model.proofs.Refused.{Naming, naming, when_none, Passed, passed, status_known, Inside, inside_known, unread_none, conflict_free}
 use Rattle.txn_model.proofs.AllowedBatches.{nothing_allowed, coord_allowed, topic_allowed, sub_allowed}
@@ -91,6 +89,14 @@ messages_unmarked : (bodies : List (List ℕ)) (x y : TxnId) → marker_of (topi
 messages_unmarked [] x y = refl
 messages_unmarked (body ∷ bodies) x y = messages_unmarked bodies x y
 
+plain_insides : (bodies : List (List ℕ)) (y : TxnId) → has_inside (topic_skeletons (map (message_entry None) bodies)) y ≡ false
+plain_insides [] y = refl
+plain_insides (body ∷ bodies) y = plain_insides bodies y
+
+plain_unmarked : (bodies : List (List ℕ)) (y : TxnId) → marker_of (topic_skeletons (map (message_entry None) bodies)) y ≡ None
+plain_unmarked [] y = refl
+plain_unmarked (body ∷ bodies) y = plain_unmarked bodies y
+
 not_true : (b : Bool) → not b ≡ true → b ≡ false
 not_true true h = absurd (no_true h)
 not_true false h = refl
@@ -107,8 +113,8 @@ plain_granted w p bodies l fits =
     record {
       fits = fits;
       allowed = topic_allowed w p (map (message_entry None) bodies) l (plain_allowed (topic_skeletons (list_at w.topics p)) bodies)
-          (λ x h. absurd (no_true (sym (inside_beside [] (map (message_entry None) bodies) x (plain_entries bodies)) ∙ h)))
-          (λ x d h. absurd (none_some (sym (marker_beside [] (map (message_entry None) bodies) x (plain_entries bodies)) ∙ h)));
+          (λ x h. absurd (no_true (sym (plain_insides bodies x) ∙ h)))
+          (λ x d h. absurd (none_some (sym (plain_unmarked bodies x) ∙ h)));
     }
 
 inside_granted : (w : World) (p : ℕ) (x : TxnId) (bodies : List (List ℕ)) → Lawful w → IsFor (in_topic p []) w.names → marker_of (topic_skeletons (list_at w.topics p)) x ≡ None → in_parts (log_of w) x p ≡ true

@@ -1,5 +1,5 @@
 -- Over a lawful log, with every part whole, the plain answer is one that the table has. So the table is never without one.
-use Rattle.std.proofs.Common.{◌≡◌, ◌⊎◌, inl, inr, ℕ, eq-eqb, Bool, true, false, cond, if◌then◌else◌, List, [], ◌∷◌, ◌++◌, Some, None, refl, sym, ap, ◌∙◌, subst}
+use Rattle.std.proofs.Common.{◌≡◌, ◌⊎◌, inl, inr, ℕ, Bool, true, false, cond, if◌then◌else◌, List, [], ◌∷◌, ◌++◌, Some, None, refl, sym, ap, ◌∙◌, subst}
 use Rattle.std.specs.Prelude.{Option, MatchBool, MatchOption, is_none, is_some, find}
 use Rattle.std.specs.Option.{option_or}
 use Rattle.txn_base.specs.declared.limits.Limits.{Limits}
@@ -14,7 +14,7 @@ use Rattle.txn_base.specs.declared.request.Request.TheVariants as request
 use Rattle.txn_base.specs.declared.reply.Refusal.{Refusal}
 use Rattle.txn_base.specs.declared.reply.Refusal.TheVariants as no
 use Rattle.txn_model.specs.Words.{nowhere, when, first_of}
-use Rattle.txn_model.specs.Skeletons.{same_txn, coord_skeleton, coord_skeletons}
+use Rattle.txn_model.specs.Skeletons.{coord_skeleton, coord_skeletons}
 use Rattle.txn_model.specs.Coord.{decision_skeleton, says_decision, has_new, status_of, decision_of, closing_of, parts_of, is_open, CoordLawful}
 use Rattle.txn_model.specs.Deadlines.{transactions, is_undriven, is_due, first_due, first_undriven}
 use Rattle.txn_model.specs.World.{log_of}
@@ -24,9 +24,9 @@ use Rattle.txn_model.specs.LateRows.{late_rows, late_refusal, is_not_found}
 use Rattle.txn_model.specs.Drive.{Rebuilds, RebuildsAll, MarksAll, Drives, already, closes}
 use Rattle.txn_model.specs.Answers.{uses, Ends, AppendFails, Succeeds, Answers, early, late, granted, tick_target, tick_reply}
 use Rattle.txn_model.specs.Plain.{all_marked, drive_by, end_of, after_tick, plain_success, or_refused, plain_answer}
-use Rattle.txn_model.proofs.Bools.{no_true, and_l, and_both}
+use Rattle.txn_model.proofs.Bools.{no_true, and_l}
 use Rattle.txn_model.proofs.Prefixes.{map_append, first_of-append}
-use Rattle.txn_model.proofs.Statuses.{Agrees, last_by, status_by, lawful_agrees}
+use Rattle.txn_model.proofs.Statuses.{Agrees, last_by, status_by, same_self, lawful_agrees}
 
 rebuilds_self : (p : ℕ) (t : TableState) → t.fenced ≡ nowhere → Rebuilds p t t
 rebuilds_self p t e = subst (λ f. MatchBool (f p) ((stays : Bool) × (t ≡ rebuilt p stays t)) (t ≡ t)) (sym e) refl
@@ -46,9 +46,6 @@ some_none : {V : Type 0} {v : V} → Some v ≡ None → ⊥
 some_none h = cc
 
 -- ---- A transaction with a status is decided or closed, once its decision is logged.
-
-same_self : (x : TxnId) → same_txn x x ≡ true
-same_self x = and_both _ _ (eq-eqb x.most x.most refl) (eq-eqb x.least x.least refl)
 
 -- the transaction is closed or decided
 abbrev IsEnding : List CoreEntry → TxnId → Type 0

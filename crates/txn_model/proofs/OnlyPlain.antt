@@ -1,13 +1,11 @@
 -- Where nothing fails and every part is whole, the only answer beside want of memory is the plain one.
-use Rattle.std.proofs.Common.{◌≡◌, ◌⊎◌, inl, inr, ℕ, Bool, true, List, [], ◌∷◌, Some, None, sym, ap, ◌∙◌, subst}
-use Rattle.std.specs.Prelude.{Option, MatchBool, MatchOption}
+use Rattle.std.proofs.Common.{◌≡◌, ◌⊎◌, inl, inr, ℕ, Bool, true, List, [], ◌∷◌, None, sym, ap, ◌∙◌, subst}
+use Rattle.std.specs.Prelude.{MatchBool}
 use Rattle.std.specs.Option.{option_or}
 use Rattle.txn_base.specs.declared.limits.Limits.{Limits}
 use Rattle.txn_base.specs.declared.txn.TxnId.{TxnId}
 use Rattle.txn_base.specs.declared.txn.Decision.{Decision}
-use Rattle.txn_base.specs.declared.txn.Decision.TheVariants.{Commit, Abort}
 use Rattle.txn_base.specs.declared.request.Request.{Request}
-use Rattle.txn_base.specs.declared.request.Request.TheVariants as request
 use Rattle.txn_base.specs.declared.reply.Reply.{Reply}
 use Rattle.txn_base.specs.declared.reply.Reply.TheVariants as reply
 use Rattle.txn_base.specs.declared.reply.Outcome.{Outcome}
@@ -18,11 +16,11 @@ use Rattle.txn_model.specs.Coord.{decision_of, parts_of}
 use Rattle.txn_model.specs.World.{log_of}
 use Rattle.txn_model.specs.Table.{TableState, settled, marked, rebuilt, is_fenced, decision_batch, closing_batch}
 use Rattle.txn_model.specs.LateRows.{late_refusal}
-use Rattle.txn_model.specs.Successes.{Success, success_of}
 use Rattle.txn_model.specs.Drive.{Rebuilds, RebuildsAll, RefusedAt, MarksAll, StopsAt, recovery_fault, recovery_memory, marker_memory, marker_fault, StopsWithin, Drives, already, closes, close_fault, stops}
-use Rattle.txn_model.specs.Answers.{uses, AppendFails, Fulfils, Ends, Succeeds, Answers, early, unrecovered, unread, late, granted, no_memory, no_memory_later, tick_target, tick_reply}
-use Rattle.txn_model.specs.Plain.{all_marked, drive_by, drive_of, end_of, after_tick, after_success, plain_success, or_refused, plain_answer}
+use Rattle.txn_model.specs.Answers.{uses, Succeeds, Answers, early, unrecovered, unread, late, granted, no_memory, no_memory_later}
+use Rattle.txn_model.specs.Plain.{all_marked, drive_by, drive_of, end_of, plain_success, or_refused, plain_answer}
 use Rattle.txn_model.proofs.Bools.{no_true}
+use Rattle.txn_model.proofs.Moves.{Way, by_row, is_idle, by_end, way}
 
 -- this was told, and this stands afterwards
 abbrev pub Is : {A : Type 0} → A → TableState → A × TableState → Type 0
@@ -73,38 +71,15 @@ module _ (rose : ℕ → Type 0) (quiet : (p : ℕ) → rose p → ⊥) where
   drives_plain x t outcome t' e (close_fault d c k mid m f o s) = absurd (quiet 0 f)
   drives_plain x t outcome t' e (stops d c k p reason h o) = absurd (not_stopped_within x d (parts_of (log_of t.world) x) p t reason t' e h)
 
-  row_plain : (s : Success) (t : TableState) (r : Request) (told : Reply) (t' : TableState) → Fulfils s t told t' ⊎ AppendFails rose s.adds t told t' → Is told t' (after_success s t)
-  row_plain s t r told t' (inl h) = h
-  row_plain s t r told t' (inr h) = absurd (quiet h.0 h.2)
-
-  tick_plain : (t : TableState) (o : Option TxnId) (told : Reply) (t' : TableState) → t.fenced ≡ nowhere
-      → MatchOption o ((told ≡ tick_reply t None) × (t' ≡ t))
-      (λ x. ((outcome : Outcome) × Ends rose t x Abort outcome t' × (told ≡ tick_reply t' (Some (x, outcome)))) ⊎ AppendFails rose (decision_batch t x Abort) t told t')
-      → Is told t' (after_tick t o)
-  tick_plain t None told t' e h = h
-  tick_plain t (Some x) told t' e (inl h) =
-      let s : Is h.0 t' (end_of t x Abort) = drives_plain x (settled (decision_batch t x Abort) t) h.0 t' e h.1 in
-      (h.2 ∙ ap (λ o. tick_reply t' (Some (x, o))) s.0 ∙ ap (λ u. tick_reply u (Some (x, (end_of t x Abort).0))) s.1, s.1)
-  tick_plain t (Some x) told t' e (inr h) = absurd (quiet h.0 h.2)
-
-  success_plain : (limits : Limits) (t : TableState) (r : Request) (told : Reply) (t' : TableState) → t.fenced ≡ nowhere → Succeeds limits rose t r told t' → Is told t' (plain_success limits t r)
-  success_plain limits t (request.Commit x) told t' e (inl h) =
-      let s : Is h.0 t' (end_of t x Commit) = drives_plain x (settled (decision_batch t x Commit) t) h.0 t' e h.1 in (h.2 ∙ ap (λ o. reply.Ended Commit o) s.0, s.1)
-  success_plain limits t (request.Commit x) told t' e (inr h) = absurd (quiet h.0 h.2)
-  success_plain limits t (request.Abort x) told t' e (inl h) =
-      let s : Is h.0 t' (end_of t x Abort) = drives_plain x (settled (decision_batch t x Abort) t) h.0 t' e h.1 in (h.2 ∙ ap (λ o. reply.Ended Abort o) s.0, s.1)
-  success_plain limits t (request.Abort x) told t' e (inr h) = absurd (quiet h.0 h.2)
-  success_plain limits t request.Tick told t' e h = tick_plain t (tick_target t) told t' e h
-  success_plain limits t (request.New timeout) told t' e h = row_plain (success_of limits t (request.New timeout)) t (request.New timeout) told t' h
-  success_plain limits t (request.Add x part) told t' e h = row_plain (success_of limits t (request.Add x part)) t (request.Add x part) told t' h
-  success_plain limits t (request.Publish topic who bodies) told t' e h = row_plain (success_of limits t (request.Publish topic who bodies)) t (request.Publish topic who bodies) told t' h
-  success_plain limits t (request.Ack sub who places) told t' e h = row_plain (success_of limits t (request.Ack sub who places)) t (request.Ack sub who places) told t' h
-  success_plain limits t (request.AckUpTo sub who place) told t' e h = row_plain (success_of limits t (request.AckUpTo sub who place)) t (request.AckUpTo sub who place) told t' h
-  success_plain limits t (request.Status x) told t' e h = row_plain (success_of limits t (request.Status x)) t (request.Status x) told t' h
-  success_plain limits t (request.Read topic first max) told t' e h = row_plain (success_of limits t (request.Read topic first max)) t (request.Read topic first max) told t' h
-  success_plain limits t (request.Receive sub max) told t' e h = row_plain (success_of limits t (request.Receive sub max)) t (request.Receive sub max) told t' h
-  success_plain limits t (request.Redeliver sub) told t' e h = row_plain (success_of limits t (request.Redeliver sub)) t (request.Redeliver sub) told t' h
-  success_plain limits t request.Stop told t' e h = row_plain (success_of limits t request.Stop) t request.Stop told t' h
+  way_plain : (limits : Limits) (t : TableState) (r : Request) (told : Reply) (t' : TableState) → t.fenced ≡ nowhere → Way limits rose t r told t' → Is told t' (plain_success limits t r)
+  way_plain limits t r told t' e (by_row plain safe (inl h)) = subst (Is told t') (sym plain) h
+  way_plain limits t r told t' e (by_row plain safe (inr h)) = absurd (quiet h.0 h.2)
+  way_plain limits t r told t' e (is_idle plain o s) = subst (Is told t') (sym plain) (o, s)
+  way_plain limits t r told t' e (by_end x d say safe plain u (inl h)) =
+      let s : Is h.0 t' (end_of t x d) = drives_plain x (settled (decision_batch t x d) t) h.0 t' e h.1 in
+      let one : (told, t') ≡ plain_success limits t r = h.2 ∙ ap say (λ i. (s.0 i, s.1 i)) ∙ sym plain in
+      (ap (λ o. o.0) one, ap (λ o. o.1) one)
+  way_plain limits t r told t' e (by_end x d say safe plain u (inr h)) = absurd (quiet h.0 h.2)
 
   -- with every part whole and no fault, the answer is the plain one, or want of memory
   pub only_plain : (limits : Limits) (t : TableState) (r : Request) (told : Reply) (t' : TableState) → t.fenced ≡ nowhere → Answers limits rose t r told t'
@@ -121,6 +96,6 @@ module _ (rose : ℕ → Type 0) (quiet : (p : ℕ) → rose p → ⊥) where
       let m : mid ≡ t = all_same (uses t.world r) t mid e w in
       inr (subst (λ a. Is told t' (or_refused t (option_or a (late_refusal limits t r)) (plain_success limits t r))) (sym h)
       (subst (λ b. Is told t' (or_refused t b (plain_success limits t r))) (sym (ap (λ s. late_refusal limits s r) (sym m) ∙ k))
-      (success_plain limits t r told t' e (subst (λ s. Succeeds limits rose s r told t') m g))))
+      (way_plain limits t r told t' e (way limits rose t r told t' (subst (λ s. Succeeds limits rose s r told t') m g)))))
   only_plain limits t r told t' e (no_memory o s) = inl o
   only_plain limits t r told t' e (no_memory_later h o w) = inl o

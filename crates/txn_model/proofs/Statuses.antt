@@ -1,5 +1,5 @@
 -- In a lawful log the status is what the decision and the closing make it, and no transaction is decided twice.
-use Rattle.std.proofs.Common.{◌≡◌, ℕ, eqb-true, ◌==◌, Bool, true, false, ◌&&◌, ◌||◌, if◌then◌else◌, List, [], ◌∷◌, ◌++◌, Some, None, refl, sym, ap, ◌∙◌, subst, append_assoc}
+use Rattle.std.proofs.Common.{◌≡◌, ℕ, eq-eqb, eqb-true, ◌==◌, Bool, true, false, ◌&&◌, ◌||◌, if◌then◌else◌, List, [], ◌∷◌, ◌++◌, Some, None, refl, sym, ap, ◌∙◌, subst, append_assoc}
 use Rattle.std.proofs.lemmas.List.Folds.{list_any-append}
 use Rattle.std.specs.Prelude.{Option, unwrap_or}
 use Rattle.std.specs.Option.{option_or}
@@ -13,7 +13,7 @@ use Rattle.txn_base.specs.declared.core_entry.CoreEntry.TheVariants as core
 use Rattle.txn_model.specs.Words.{last_of, all_follow}
 use Rattle.txn_model.specs.Skeletons.{same_txn}
 use Rattle.txn_model.specs.Coord.{decision_skeleton, closing_skeleton, deciding, closed, is_new, says_status, says_decision, says_closing, has_new, status_of, decision_of, closing_of, is_open, is_deciding, coord_allows, CoordLawful}
-use Rattle.txn_model.proofs.Bools.{no_true, and_l, and_r, or_l}
+use Rattle.txn_model.proofs.Bools.{no_true, and_l, and_r, and_both, or_l}
 use Rattle.txn_model.proofs.Prefixes.{first_of-append, all_follow-append}
 
 -- the status that is said last, by how x is closed and decided
@@ -45,6 +45,9 @@ last_snoc f (y ∷ xs) e = ap (λ o. option_or o (f y)) (last_snoc f xs e) ∙ t
     three : {V : Type 0} (a b c : Option V) → option_or (option_or a b) c ≡ option_or a (option_or b c)
     three None b c = refl
     three (Some v) b c = refl
+
+pub same_self : (x : TxnId) → same_txn x x ≡ true
+same_self x = and_both _ _ (eq-eqb x.most x.most refl) (eq-eqb x.least x.least refl)
 
 pub txn_equal : (x y : TxnId) → same_txn x y ≡ true → x ≡ y
 txn_equal x y h =

@@ -1,5 +1,5 @@
 -- The definitions of single lists, computed on small ones.
-use Rattle.std.specs.Prelude.{◌≡◌, ℕ, Bool, true, false, List, [], ◌∷◌, map, Option, Some, None, codes, refl}
+use Rattle.std.specs.Prelude.{◌≡◌, ℕ, true, false, List, [], ◌∷◌, map, Option, Some, None, codes, refl}
 use Rattle.txn_base.specs.Limits.{standard}
 use Rattle.txn_base.specs.declared.limits.Limits.{Limits}
 use Rattle.txn_base.specs.declared.txn.Decision.TheVariants.{Commit, Abort}

@@ -1,6 +1,5 @@
 -- A topic's entries and messages, by named parts.
-use Rattle.std.specs.Prelude.{ℕ, suc, Bool, true, false, List, [], ◌∷◌, Option, Some, None}
-use Rattle.std.specs.List.{list_all}
+use Rattle.std.specs.Prelude.{ℕ, List, [], Option, Some, None}
 use Rattle.txn_base.specs.Bytes.{only_bytes}
 use Rattle.txn_base.specs.declared.txn.TxnId.{TxnId}
 use Rattle.txn_base.specs.declared.messages.Message.{Message}
@@ -12,15 +11,6 @@ abbrev pub body_of : TopicEntry → List ℕ
 body_of (topic.Plain body) = body.bytes
 body_of (topic.Opened x body) = body.bytes
 body_of _ = []
-
--- The entry is a plain message.
-abbrev pub is_plain : TopicEntry → Bool
-is_plain (topic.Plain body) = true
-is_plain _ = false
-
--- Each of these is a plain message.
-abbrev pub are_plain : List TopicEntry → Bool
-are_plain es = list_all is_plain es
 
 -- The transaction of a message, which is none for a plain one and for a marker.
 abbrev pub inside_of : TopicEntry → Option TxnId
@@ -38,8 +28,3 @@ message_at k body = record { place = k; body = body }
 
 abbrev pub message_of : ℕ → TopicEntry → Message
 message_of k e = message_at k (body_of e)
-
--- From place k on, the messages of these entries.
-abbrev pub messages_from : ℕ → List TopicEntry → List Message
-messages_from k [] = []
-messages_from k (e ∷ es) = message_of k e ∷ messages_from (suc k) es

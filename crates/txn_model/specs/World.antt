@@ -13,7 +13,6 @@ use Rattle.txn_model.specs.declared.world.World.{World}
 use Rattle.txn_model.specs.Words.{list_at}
 use Rattle.txn_model.specs.Skeletons.{same_txn, coord_skeletons, topic_skeletons, ack_skeletons}
 use Rattle.txn_base.specs.Names.{is_sub}
-use Rattle.txn_model.specs.Entries.{are_plain}
 use Rattle.txn_model.specs.Names.{NamesLawful, name_of}
 use Rattle.txn_model.specs.Coord.{CoordLawful, decision_of, closing_of, in_parts}
 use Rattle.txn_model.specs.Topic.{TopicLawful, marker_of}
@@ -74,12 +73,6 @@ pub record Flights : Type 0 where
 
 abbrev pub no_flights : Flights
 no_flights = record { coord = []; topics = λ p. []; subs = λ p. [] }
-
--- Each flight is one of plain messages, for a topic.
-pub record PlainFlights (f : Flights) : Type 0 where
-  pub coord : f.coord ≡ []
-  pub topics : (p : ℕ) → are_plain (f.topics p) ≡ true
-  pub subs : (p : ℕ) → f.subs p ≡ []
 
 -- Where `stays` names a part, its flight follows its list; the other lists stay as they are.
 abbrev pub followed : {E : Type 0} → (ℕ → Bool) → (ℕ → List E) → List (ℕ × List E) → List (ℕ × List E)

@@ -1,25 +1,14 @@
 //! Laws of worlds. Each function does nothing, and its contract is the law.
-ghost use Rattle.std.specs.Prelude.{◌≡◌, ◌==◌, true, if◌then◌else◌, ◌++◌, ℕ, Bool, List, map, None};
+ghost use Rattle.std.specs.Prelude.{◌≡◌, ◌==◌, true, if◌then◌else◌, ◌++◌, ℕ, Bool, List};
 ghost use Rattle.txn_base.specs.declared.entry.TopicEntry.{TopicEntry};
 ghost use Rattle.txn_base.specs.declared.entry.AckEntry.{AckEntry};
 ghost use Rattle.txn_model.specs.declared.world.World.{World};
 ghost use Rattle.txn_model.specs.Words.{has, list_at, append_at};
-ghost use Rattle.txn_model.specs.Entries.{are_plain, message_entry};
-ghost use Rattle.txn_model.specs.World.{Lawful, Extends, Flights, PlainFlights, kept};
-ghost use Rattle.txn_model.specs.Table.{Batch, in_topic, world_with};
-ghost use Rattle.txn_model.specs.Shape.{Shaped, IsFor, topic_parts, sub_parts};
+ghost use Rattle.txn_model.specs.World.{Lawful, Extends, Flights, kept};
+ghost use Rattle.txn_model.specs.Table.{Batch, world_with};
+ghost use Rattle.txn_model.specs.Shape.{Shaped, topic_parts, sub_parts};
 ghost use Rattle.txn_model.specs.Allowed.{AllowedFlights, IsAllowed};
 ghost use Rattle.txn_model.specs.Opening.{names_with, world_named};
-
-/// A world keeps the lists that its names ask for: each topic and each subscription has one, in order.
-pub fn shapes_stay()
-    // Under a batch for a part of its kind.
-    ensures batch { (b : Batch) (w : World) → Shaped w → IsFor b w.names → Shaped (world_with b w) }
-    // Under what a stop keeps.
-    ensures kept { (w : World) (f : Flights) (stays : ℕ → Bool) → Shaped w → Shaped (kept w f stays) }
-    // Under new names.
-    ensures named { (w : World) (words : List (List ℕ)) → Shaped w → Shaped (world_named w (names_with w.names words)) }
-{}
 
 /// What is added for one part follows that part's list, and each other list is as it was.
 pub fn lists_stand_apart()
@@ -40,15 +29,6 @@ pub fn worlds_grow()
     ensures batch { (b : Batch) (w : World) → Extends w (world_with b w) }
     ensures kept { (w : World) (f : Flights) (stays : ℕ → Bool) → Extends w (kept w f stays) }
     ensures named { (w : World) (words : List (List ℕ)) → Extends w (world_named w (names_with w.names words)) }
-{}
-
-/// A lawful world stays lawful where plain messages are all that is added.
-pub fn plain_messages_are_lawful()
-    ensures batch { (w : World) (p : ℕ) (es : List TopicEntry) → Lawful w → are_plain es ≡ true → Lawful (world_with (in_topic p es) w) }
-    ensures kept { (w : World) (f : Flights) (stays : ℕ → Bool) → Lawful w → PlainFlights f → Lawful (kept w f stays) }
-
-    // The entries of a publish without a transaction.
-    ensures entries { (bodies : List (List ℕ)) → are_plain (map (message_entry None) bodies) ≡ true }
 {}
 
 /// A lawful world stays lawful under a batch that is allowed over it, and whatever a stop keeps of allowed flights.

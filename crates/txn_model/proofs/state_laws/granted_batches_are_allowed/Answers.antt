@@ -1,6 +1,6 @@
 use Rattle.txn_model.proofs.Grants.{decision_granted, row_granted}
-use Rattle.txn_model.proofs.LawfulMarks.{marker_granted}
-use Rattle.txn_model.proofs.LawfulAnswers.{closing_allowed, parts_are_named}
+use Rattle.txn_model.proofs.LawfulMoves.{marker_granted}
+use Rattle.txn_model.proofs.LawfulMoves.{closing_allowed, parts_are_named}
 use Rattle.txn_model.proofs.state_laws.granted_batches_are_allowed.Goals as goal
 
 pub returns-clause-row : goal.returns-clause-row

@@ -1,6 +1,6 @@
 use Rattle.txn_model.proofs.Chosen.{lawful_kept}
 use Rattle.txn_model.proofs.FirstStates.{first_lawful}
-use Rattle.txn_model.proofs.LawfulAnswers.{from_keeps, replies_keep}
+use Rattle.txn_model.proofs.LawfulMoves.{from_keeps, replies_keep}
 use Rattle.txn_model.proofs.state_laws.states_stay_lawful.Goals as goal
 
 pub returns-clause-first : goal.returns-clause-first
