@@ -1,29 +1,11 @@
 -- When a batch is allowed over a lawful world.
 use Rattle.std.proofs.Common.{◌≡◌, ℕ, ◌==◌, eqb-true, Bool, true, false, ◌&&◌, if◌then◌else◌, List, [], ◌∷◌, ◌++◌, length, Some, None, refl, sym, ap, ◌∙◌, subst}
 use Rattle.std.proofs.lemmas.List.{append-nil}
-use Rattle.txn_base.specs.declared.txn.TxnId.{TxnId}
-use Rattle.txn_base.specs.declared.txn.Decision.{Decision}
-use Rattle.txn_base.specs.declared.entry.CoordEntry.{CoordEntry}
-use Rattle.txn_base.specs.declared.entry.TopicEntry.{TopicEntry}
-use Rattle.txn_base.specs.declared.entry.AckEntry.{AckEntry}
-use Rattle.txn_base.specs.Names.{is_sub}
-use Rattle.txn_model.specs.declared.world.World.{World}
-use Rattle.txn_model.specs.Words.{all_follow, list_at}
-use Rattle.txn_model.specs.Skeletons.{coord_skeleton, topic_skeleton, topic_skeletons, ack_skeleton, ack_skeletons}
-use Rattle.txn_model.specs.Names.{name_of}
-use Rattle.txn_model.specs.Coord.{coord_allows, decision_of, closing_of, in_parts}
-use Rattle.txn_model.specs.Topic.{part_allows, TopicLawful, marker_of}
-use Rattle.txn_model.specs.Ack.{ack_allows, AckLawful}
-use Rattle.txn_model.specs.World.{log_of, part_skeletons, has_inside, Lawful, no_flights}
-use Rattle.txn_model.specs.Table.{nothing, in_coord, in_topic, in_sub}
-use Rattle.txn_model.specs.Allowed.{AllowedFlights, IsAllowed}
-use Rattle.txn_model.proofs.Bools.{no_true, and_both}
+use Rattle.txn_model.proofs.Words.{TxnId, Decision, CoordEntry, TopicEntry, AckEntry, is_sub, World, all_follow, list_at, coord_skeleton, topic_skeleton, topic_skeletons, ack_skeleton, ack_skeletons, name_of, coord_allows, decision_of, closing_of, in_parts, part_allows, TopicLawful, marker_of, ack_allows, AckLawful, log_of, part_skeletons, has_inside, Lawful, no_flights, nothing, in_coord, in_topic, in_sub, AllowedFlights, IsAllowed}
+use Rattle.txn_model.proofs.Bools.{no_true, and_both, none_some}
 use Rattle.txn_model.proofs.Prefixes.{map_append, all_follow-append}
 use Rattle.txn_model.proofs.LawfulGrowth.{lawful_more}
 use Rattle.txn_model.proofs.FlightsOver.{no_flights_allowed}
-
-none_some : {V : Type 0} {v : V} → None ≡ Some v → ⊥
-none_some h = cc
 
 pub nothing_allowed : (w : World) → Lawful w → IsAllowed nothing w
 nothing_allowed w l = no_flights_allowed w l

@@ -1,17 +1,10 @@
 -- Where one ledger's file changes, the files stand for the world in which its list changed.
 use Rattle.std.proofs.Common.{◌≡◌, ℕ, ◌+◌, ◌==◌, ◌≤◌, ◌<◌, arith, eq-eqb, eqb-true, Bool, true, false, if◌then◌else◌, List, [], ◌∷◌, ◌++◌, length, refl, sym, ap, ◌∙◌, subst}
 use Rattle.txn_base.specs.declared.file_id.FileId.{FileId}
-use Rattle.txn_base.specs.declared.entry.CoordEntry.{CoordEntry}
-use Rattle.txn_base.specs.declared.entry.TopicEntry.{TopicEntry}
-use Rattle.txn_base.specs.declared.entry.AckEntry.{AckEntry}
+use Rattle.txn_model.proofs.Words.{CoordEntry, TopicEntry, AckEntry, is_sub, World, has, list_at, is_topic, topic_parts, sub_parts, Shaped, in_coord, in_topic, in_sub, world_with}
 use Rattle.txn_base.specs.Disk.{Files, Elsewhere}
 use Rattle.txn_base.specs.Frames.{Record, Stands}
 use Rattle.txn_base.specs.Records.{IsCoordRecord, IsAckRecord}
-use Rattle.txn_base.specs.Names.{is_sub}
-use Rattle.txn_model.specs.declared.world.World.{World}
-use Rattle.txn_model.specs.Words.{has, list_at}
-use Rattle.txn_model.specs.Shape.{is_topic, topic_parts, sub_parts, Shaped}
-use Rattle.txn_model.specs.Table.{in_coord, in_topic, in_sub, world_with}
 use Rattle.txn_model.specs.Sound.{part_file, ledger_file, StandsForEntries, IsBareRecord, NoOthers, StandsFor}
 use Rattle.txn_model.proofs.Bools.{no_true}
 use Rattle.txn_model.proofs.Lists.{at_append}

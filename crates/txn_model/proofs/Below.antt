@@ -1,10 +1,6 @@
 -- The visible messages are what the entries below the limit show.
 use Rattle.std.proofs.Common.{◌≡◌, ℕ, zero, suc, ◌+◌, ◌≤◌, arith, Bool, true, false, if◌then◌else◌, List, [], ◌∷◌, ◌++◌, take, refl, ap, ◌∙◌}
-use Rattle.std.specs.Prelude.{option_to_list}
-use Rattle.txn_base.specs.declared.core_entry.CoreEntry.{CoreEntry}
-use Rattle.txn_base.specs.declared.entry.TopicEntry.{TopicEntry}
-use Rattle.txn_model.specs.Skeletons.{topic_skeleton, topic_skeletons}
-use Rattle.txn_model.specs.Topic.{is_undecided, limit_from, limit_of, shows, shown_from, visible_from, visible_of}
+use Rattle.txn_model.proofs.Words.{option_to_list, CoreEntry, TopicEntry, topic_skeleton, topic_skeletons, is_undecided, limit_from, limit_of, shows, shown_from, visible_from, visible_of}
 use Rattle.txn_model.proofs.Prefixes.{limit_above}
 use Rattle.txn_model.proofs.Showing.{visible_split}
 

@@ -1,23 +1,8 @@
 -- A lawful world stays lawful where of its allowed flights some are kept, each whole.
 use Rattle.std.proofs.Common.{◌≡◌, ◌⊎◌, inl, inr, ℕ, ◌==◌, eqb-true, Bool, true, false, if◌then◌else◌, List, [], ◌∷◌, ◌++◌, length, Some, None, refl, sym, ap, ◌∙◌, subst}
 use Rattle.std.proofs.lemmas.List.{append-nil}
-use Rattle.txn_base.specs.declared.txn.TxnId.{TxnId}
-use Rattle.txn_base.specs.declared.txn.Decision.{Decision}
-use Rattle.txn_base.specs.declared.core_entry.CoreEntry.{CoreEntry}
-use Rattle.txn_base.specs.declared.entry.CoordEntry.{CoordEntry}
-use Rattle.txn_base.specs.declared.entry.TopicEntry.{TopicEntry}
-use Rattle.txn_base.specs.declared.entry.AckEntry.{AckEntry}
-use Rattle.txn_base.specs.Names.{is_sub}
-use Rattle.txn_model.specs.declared.world.World.{World}
-use Rattle.txn_model.specs.Words.{list_at}
-use Rattle.txn_model.specs.Skeletons.{coord_skeleton, coord_skeletons, topic_skeleton, topic_skeletons, ack_skeleton, ack_skeletons}
-use Rattle.txn_model.specs.Names.{name_of}
-use Rattle.txn_model.specs.Coord.{CoordLawful, decision_of, closing_of, in_parts}
-use Rattle.txn_model.specs.Topic.{TopicLawful, marker_of}
-use Rattle.txn_model.specs.Ack.{AckLawful}
-use Rattle.txn_model.specs.World.{log_of, part_skeletons, has_inside, Lawful, Flights, followed, kept}
-use Rattle.txn_model.specs.Allowed.{flight_skeletons, AllowedFlights}
-use Rattle.txn_model.proofs.Bools.{no_true}
+use Rattle.txn_model.proofs.Words.{TxnId, Decision, CoreEntry, CoordEntry, TopicEntry, AckEntry, is_sub, World, list_at, coord_skeleton, coord_skeletons, topic_skeleton, topic_skeletons, ack_skeleton, ack_skeletons, name_of, CoordLawful, decision_of, closing_of, in_parts, TopicLawful, marker_of, AckLawful, log_of, part_skeletons, has_inside, Lawful, Flights, followed, kept, flight_skeletons, AllowedFlights}
+use Rattle.txn_model.proofs.Bools.{no_true, none_some}
 use Rattle.txn_model.proofs.Prefixes.{map_append}
 use Rattle.txn_model.proofs.LawfulGrowth.{marker_stays, Growth, lawful_growth}
 
@@ -43,9 +28,6 @@ pub record Choice (w w' : World) (f : Flights) : Type 0 where
   pub coord : Chosen w.coord w'.coord f.coord
   pub topics : (p : ℕ) → Chosen (list_at w.topics p) (list_at w'.topics p) (f.topics p)
   pub subs : (p : ℕ) → Chosen (list_at w.subs p) (list_at w'.subs p) (f.subs p)
-
-none_some : {V : Type 0} {v : V} → None ≡ Some v → ⊥
-none_some h = cc
 
 pub part_more : (b : Bool) (es es' flight : List TopicEntry) (a a' held : List AckEntry) (c : Chosen es es' flight) (d : Chosen a a' held)
     → (if b then ack_skeletons a' else topic_skeletons es') ≡ (if b then ack_skeletons a else topic_skeletons es) ++ (if b then ack_skeletons (more a a' held d) else topic_skeletons (more es es' flight c))

@@ -1,34 +1,12 @@
 -- Each reply that tells of a fault was paid by a rise of the count of faults.
 use Rattle.std.proofs.Common.{◌≡◌, inl, inr, ℕ, ◌+◌, ◌-◌, ◌^◌, ◌≤◌, min, arith, zero-add, cond, Bool, true, false, List, [], ◌∷◌, Some, None, refl, sym, ap, ◌∙◌, subst}
 use Rattle.std.proofs.lemmas.List.Sums.{sum_by-append}
-use Rattle.std.specs.Prelude.{Option, option_map}
-use Rattle.std.specs.List.{list_all}
-use Rattle.txn_base.specs.declared.limits.Limits.{Limits}
-use Rattle.txn_base.specs.declared.txn.TxnId.{TxnId}
-use Rattle.txn_base.specs.declared.txn.Decision.{Decision}
-use Rattle.txn_base.specs.declared.request.Request.{Request}
-use Rattle.txn_base.specs.declared.reply.Reply.{Reply}
+use Rattle.txn_model.proofs.Words.{Option, option_map, list_all, Limits, TxnId, Decision, Request, Reply, Outcome, Why, Refusal, Transactions, Log, Held, World, first_of, when, parts_of, log_of, TableState, settled, marked, decision_batch, limit_in, early_rows, early_refusal, late_rows, late_refusal, success_of, StopsAt, recovery_fault, recovery_memory, marker_memory, marker_fault, StopsWithin, Drives, already, closes, close_fault, stops, Answers, early, unrecovered, unread, late, granted, no_memory, no_memory_later, tick_reply, moved, is_fault_why, is_stopped, is_fault, count_faults, Standing, RoseAt, Kind, too_long, blank, form, AnswersFrom, Replied, Replies}
 use Rattle.txn_base.specs.declared.reply.Reply.TheVariants as reply
-use Rattle.txn_base.specs.declared.reply.Outcome.{Outcome}
-use Rattle.txn_base.specs.declared.reply.Why.{Why}
 use Rattle.txn_base.specs.declared.reply.Why.TheVariants as why
-use Rattle.txn_base.specs.declared.reply.Refusal.{Refusal}
 use Rattle.txn_base.specs.declared.reply.Refusal.TheVariants as no
-use Rattle.txn_base.specs.declared.reply.What.TheVariants.{Transactions, Log, Held}
-use Rattle.txn_model.specs.declared.world.World.{World}
-use Rattle.txn_model.specs.Words.{first_of, when}
-use Rattle.txn_model.specs.Coord.{parts_of}
-use Rattle.txn_model.specs.World.{log_of}
-use Rattle.txn_model.specs.Table.{TableState, settled, marked, decision_batch}
-use Rattle.txn_model.specs.Requests.{limit_in}
 use Rattle.txn_model.specs.EarlyRows as early_row
-use Rattle.txn_model.specs.EarlyRows.{early_rows, early_refusal}
 use Rattle.txn_model.specs.LateRows as late_row
-use Rattle.txn_model.specs.LateRows.{late_rows, late_refusal}
-use Rattle.txn_model.specs.Successes.{success_of}
-use Rattle.txn_model.specs.Drive.{StopsAt, recovery_fault, recovery_memory, marker_memory, marker_fault, StopsWithin, Drives, already, closes, close_fault, stops}
-use Rattle.txn_model.specs.Answers.{Answers, early, unrecovered, unread, late, granted, no_memory, no_memory_later, tick_reply, moved}
-use Rattle.txn_model.specs.Replies.{is_fault_why, is_stopped, is_fault, count_faults, Standing, RoseAt, Kind, too_long, blank, form, AnswersFrom, Replied, Replies}
 use Rattle.txn_model.proofs.Bools.{no_true, and_l, and_both}
 use Rattle.txn_model.proofs.Moves.{Way, by_row, is_idle, by_end, way}
 

@@ -2,24 +2,9 @@
 use Rattle.std.proofs.Common.{◌≡◌, inl, inr, ℕ, zero, suc, ◌+◌, ◌-◌, ◌==◌, ◌≤◌, ◌<◌, arith, eq-eqb, eqb-true, leb-true, le-leb, Bool, true, false, ◌&&◌, not, if◌then◌else◌, List, [], ◌∷◌, ◌++◌, length, length-append, drop, get_or, refl, sym, ap, ◌∙◌, subst}
 use Rattle.std.proofs.lemmas.Bool.{cases_lt}
 use Rattle.std.proofs.lemmas.List.{get_or_append_left}
-use Rattle.std.specs.Prelude.{map, codes, nat_le}
+use Rattle.txn_model.proofs.Words.{map, codes, nat_le, CoreEntry, TopicEntry, AckEntry, is_sub, World, has, list_at, all_follow, topic_skeletons, ack_skeletons, name_of, NamesLawful, status_of, in_parts, is_open, coord_allows, TopicLawful, marker_of, AckLawful, log_of, part_skeletons, has_inside, Lawful, numbered, is_topic, parts_with, Shaped, LawfulState, names_with, lists_for, world_named, first_state}
 use mathlib.Core.List.{IsPrefix}
-use Rattle.txn_base.specs.declared.core_entry.CoreEntry.{CoreEntry}
 use Rattle.txn_base.specs.declared.core_entry.CoreEntry.TheVariants as core
-use Rattle.txn_base.specs.declared.entry.TopicEntry.{TopicEntry}
-use Rattle.txn_base.specs.declared.entry.AckEntry.{AckEntry}
-use Rattle.txn_base.specs.Names.{is_sub}
-use Rattle.txn_model.specs.declared.world.World.{World}
-use Rattle.txn_model.specs.Words.{has, list_at, all_follow}
-use Rattle.txn_model.specs.Skeletons.{topic_skeletons, ack_skeletons}
-use Rattle.txn_model.specs.Names.{name_of, NamesLawful}
-use Rattle.txn_model.specs.Coord.{status_of, in_parts, is_open, coord_allows}
-use Rattle.txn_model.specs.Topic.{TopicLawful, marker_of}
-use Rattle.txn_model.specs.Ack.{AckLawful}
-use Rattle.txn_model.specs.World.{log_of, part_skeletons, has_inside, Lawful}
-use Rattle.txn_model.specs.Shape.{numbered, is_topic, parts_with, Shaped}
-use Rattle.txn_model.specs.Allowed.{LawfulState}
-use Rattle.txn_model.specs.Opening.{names_with, lists_for, world_named, first_state}
 use Rattle.txn_model.proofs.Bools.{no_true, and_l, and_r, and_both}
 use Rattle.txn_model.proofs.Parts.{numbered_within}
 use Rattle.txn_model.proofs.Shapes.{names_grow, shaped_words}

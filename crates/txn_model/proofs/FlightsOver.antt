@@ -1,29 +1,11 @@
 -- Which flights are allowed over a world that has grown.
 use Rattle.std.proofs.Common.{◌≡◌, ◌⊎◌, inl, inr, ℕ, ◌==◌, eq-eqb, eqb-true, Bool, true, false, if◌then◌else◌, List, [], ◌∷◌, ◌++◌, length, Some, None, refl, sym, ap, ◌∙◌, subst}
 use Rattle.std.proofs.lemmas.List.{append-nil}
-use Rattle.txn_base.specs.declared.txn.TxnId.{TxnId}
-use Rattle.txn_base.specs.declared.txn.Decision.{Decision}
-use Rattle.txn_base.specs.declared.core_entry.CoreEntry.{CoreEntry}
-use Rattle.txn_base.specs.declared.entry.TopicEntry.{TopicEntry}
-use Rattle.txn_base.specs.declared.entry.AckEntry.{AckEntry}
-use Rattle.txn_base.specs.Names.{is_sub}
-use Rattle.txn_model.specs.declared.world.World.{World}
-use Rattle.txn_model.specs.Words.{list_at, append_at, set_at}
-use Rattle.txn_model.specs.Skeletons.{coord_skeletons, topic_skeletons, ack_skeletons}
-use Rattle.txn_model.specs.Names.{name_of}
-use Rattle.txn_model.specs.Coord.{CoordLawful, decision_of, closing_of, in_parts}
-use Rattle.txn_model.specs.Topic.{TopicLawful, marker_of}
-use Rattle.txn_model.specs.Ack.{AckLawful}
-use Rattle.txn_model.specs.World.{log_of, part_skeletons, has_inside, Lawful, Flights, no_flights}
-use Rattle.txn_model.specs.Table.{Batch, nothing, in_coord, in_topic, in_sub, world_with, flights_with}
-use Rattle.txn_model.specs.Allowed.{log_with, flight_skeletons, AllowedFlights}
-use Rattle.txn_model.proofs.Bools.{no_true}
+use Rattle.txn_model.proofs.Words.{TxnId, Decision, CoreEntry, TopicEntry, AckEntry, is_sub, World, list_at, append_at, set_at, coord_skeletons, topic_skeletons, ack_skeletons, name_of, CoordLawful, decision_of, closing_of, in_parts, TopicLawful, marker_of, AckLawful, log_of, part_skeletons, has_inside, Lawful, Flights, no_flights, Batch, nothing, in_coord, in_topic, in_sub, world_with, flights_with, log_with, flight_skeletons, AllowedFlights}
+use Rattle.txn_model.proofs.Bools.{no_true, none_some}
 use Rattle.txn_model.proofs.Lists.{at_append}
 use Rattle.txn_model.proofs.LawfulGrowth.{parts_stay, decision_stays, marker_stays}
 use Rattle.txn_model.proofs.Chosen.{Chosen, Choice, more, part_more, log_more}
-
-none_some : {V : Type 0} {v : V} → None ≡ Some v → ⊥
-none_some h = cc
 
 -- ---- No flights.
 

@@ -1,7 +1,6 @@
 -- The first entry of a list that isn't allowed is found.
 use Rattle.std.proofs.Common.{◌≡◌, ℕ, suc, ◌+◌, ◌<◌, arith, Bool, true, false, ◌&&◌, if◌then◌else◌, List, [], ◌∷◌, ◌++◌, length, take, Some, None, refl, sym, ap, ◌∙◌, subst}
-use Rattle.std.specs.Prelude.{Option, MatchOption}
-use Rattle.txn_model.specs.Words.{all_follow, IsLawfulBy, first_bad_from, first_bad, IsFirstBad}
+use Rattle.txn_model.proofs.Words.{Option, MatchOption, all_follow, IsLawfulBy, first_bad_from, first_bad, IsFirstBad}
 use Rattle.txn_model.proofs.Bools.{no_true, and_both}
 
 -- the place that is found, from k on

@@ -1,18 +1,7 @@
 -- The entries of the coordinator and of a topic that the table adds are allowed after those that stand.
 use Rattle.std.proofs.Common.{◌≡◌, ℕ, eq-eqb, ◌==◌, true, List, [], ◌∷◌, ◌++◌, Some, None, refl, sym, ap, ◌∙◌, subst}
-use Rattle.std.specs.Prelude.{Option, map, is_none}
-use Rattle.std.specs.Option.{option_or}
-use Rattle.txn_base.specs.declared.txn.TxnId.{TxnId}
-use Rattle.txn_base.specs.declared.txn.Decision.{Decision}
-use Rattle.txn_base.specs.declared.txn.Decision.TheVariants.{Commit, Abort}
-use Rattle.txn_base.specs.declared.core_entry.CoreEntry.{CoreEntry}
+use Rattle.txn_model.proofs.Words.{Option, map, is_none, option_or, TxnId, Decision, Commit, Abort, CoreEntry, all_follow, topic_skeletons, closing_skeleton, has_new, status_of, closing_of, decision_of, count_new, deciding, is_deciding, coord_allows, CoordLawful, txn, marks, marker_of, part_allows, message_entry}
 use Rattle.txn_base.specs.declared.core_entry.CoreEntry.TheVariants as core
-use Rattle.txn_model.specs.Words.{all_follow}
-use Rattle.txn_model.specs.Skeletons.{topic_skeletons}
-use Rattle.txn_model.specs.Coord.{closing_skeleton, has_new, status_of, closing_of, decision_of, count_new, deciding, is_deciding, coord_allows, CoordLawful}
-use Rattle.txn_model.specs.Deadlines.{txn}
-use Rattle.txn_model.specs.Topic.{marks, marker_of, part_allows}
-use Rattle.txn_model.specs.Entries.{message_entry}
 use Rattle.txn_model.proofs.Bools.{and_both}
 use Rattle.txn_model.proofs.Prefixes.{first_of-append}
 use Rattle.txn_model.proofs.Statuses.{Agrees, last_by, status_by, lawful_agrees}

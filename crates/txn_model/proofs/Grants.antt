@@ -1,48 +1,16 @@
 -- What a request adds that no row refuses is allowed.
 use Rattle.std.proofs.Common.{◌≡◌, ℕ, ◌+◌, ◌<◌, ◌≤◌, leb-false, le-leb, Bool, true, false, ◌&&◌, ◌||◌, not, if◌then◌else◌, List, [], ◌∷◌, length, Some, None, refl, sym, ap, ◌∙◌, subst}
-use Rattle.std.specs.Prelude.{Option, map, find, is_none, nat_le}
-use Rattle.std.specs.List.{list_all}
-use Rattle.txn_base.specs.declared.limits.Limits.{Limits}
-use Rattle.txn_base.specs.declared.txn.TxnId.{TxnId}
-use Rattle.txn_base.specs.declared.txn.Decision.{Decision}
-use Rattle.txn_base.specs.declared.txn.Decision.TheVariants.{Commit, Abort}
-use Rattle.txn_base.specs.declared.txn.Status.{Status}
+use Rattle.txn_model.proofs.Words.{Option, map, find, is_none, nat_le, list_all, Limits, TxnId, Decision, Commit, Abort, Status, AckEntry, Ack, These, UpTo, Request, is_sub, World, list_at, below, same_txn, topic_skeletons, ack_skeleton, ack_skeletons, message_entry, name_of, count_new, status_of, in_parts, is_open, txn, part_allows, marker_of, holder_of, is_free, is_foreign, places_allow, asks, unread_place, new_places, ack_entry, acks_for, log_of, part_skeletons, has_inside, Lawful, TableState, Batch, nothing, in_coord, in_topic, in_sub, decision_entry, decision_batch, is_topic, IsFor, number_of, limit_in, early_refusal, late_refusal, forbids, has_ended, acks_batch, success_of, IsAllowed}
 use Rattle.txn_base.specs.declared.entry.CoordEntry.TheVariants as coord
-use Rattle.txn_base.specs.declared.entry.AckEntry.{AckEntry}
 use Rattle.txn_base.specs.declared.entry.AckEntry.TheVariants as ack
-use Rattle.txn_base.specs.declared.request.Ack.{Ack}
-use Rattle.txn_base.specs.declared.request.Ack.TheVariants.{These, UpTo}
-use Rattle.txn_base.specs.declared.request.Request.{Request}
 use Rattle.txn_base.specs.declared.request.Request.TheVariants as request
-use Rattle.txn_base.specs.Names.{is_sub}
-use Rattle.txn_model.specs.declared.world.World.{World}
-use Rattle.txn_model.specs.Words.{list_at, below}
-use Rattle.txn_model.specs.Skeletons.{same_txn, topic_skeletons, ack_skeleton, ack_skeletons}
-use Rattle.txn_model.specs.Entries.{message_entry}
-use Rattle.txn_model.specs.Names.{name_of}
-use Rattle.txn_model.specs.Coord.{count_new, status_of, in_parts, is_open}
-use Rattle.txn_model.specs.Deadlines.{txn}
-use Rattle.txn_model.specs.Topic.{part_allows, marker_of}
-use Rattle.txn_model.specs.Ack.{holder_of, is_free, is_foreign, places_allow}
-use Rattle.txn_model.specs.AckRules.{asks, unread_place, new_places, ack_entry, acks_for}
-use Rattle.txn_model.specs.World.{log_of, part_skeletons, has_inside, Lawful}
-use Rattle.txn_model.specs.Table.{TableState, Batch, nothing, in_coord, in_topic, in_sub, decision_entry, decision_batch}
-use Rattle.txn_model.specs.Shape.{is_topic, IsFor}
-use Rattle.txn_model.specs.Requests.{number_of, limit_in}
-use Rattle.txn_model.specs.EarlyRows.{early_refusal}
-use Rattle.txn_model.specs.LateRows.{late_refusal, forbids, has_ended}
-use Rattle.txn_model.specs.Successes.{acks_batch, success_of}
-use Rattle.txn_model.specs.Allowed.{IsAllowed}
-use Rattle.txn_model.proofs.Bools.{no_true, and_both}
+use Rattle.txn_model.proofs.Bools.{no_true, and_both, none_some}
 use Rattle.txn_model.proofs.Statuses.{txn_equal}
 use Rattle.txn_model.proofs.Granted.{these_allowed, plain_upto_allowed, hold_upto_allowed}
 use Rattle.txn_model.proofs.GrantedEntries.{new_allowed, messages_allowed, plain_allowed}
 use Rattle.txn_model.proofs.Named.{Known, named_part}
 use Rattle.txn_model.proofs.Refused.{Naming, naming, when_none, Passed, passed, status_known, Inside, inside_known, unread_none, conflict_free}
 use Rattle.txn_model.proofs.AllowedBatches.{nothing_allowed, coord_allowed, topic_allowed, sub_allowed}
-
-none_some : {V : Type 0} {v : V} → None ≡ Some v → ⊥
-none_some h = cc
 
 -- a batch is for a part of its kind, and allowed
 pub record Granted (b : Batch) (w : World) : Type 0 where

@@ -2,16 +2,7 @@
 use Rattle.std.proofs.Common.{◌≡◌, ℕ, ◌==◌, eqb-true, Bool, true, false, if◌then◌else◌, List, [], ◌∷◌, ◌++◌, ◌+◌, length, drop, refl, sym, ap, ◌∙◌, subst, append_assoc}
 use Rattle.std.proofs.lemmas.List.{append-nil}
 use mathlib.Core.List.{IsPrefix}
-use Rattle.txn_base.specs.declared.limits.Limits.{Limits}
-use Rattle.txn_base.specs.declared.reply.Reply.{Reply}
-use Rattle.txn_base.specs.Names.{is_sub}
-use Rattle.txn_model.specs.declared.world.World.{World}
-use Rattle.txn_model.specs.Words.{list_at, with_list, append_at}
-use Rattle.txn_model.specs.World.{Extends, Flights, followed, kept}
-use Rattle.txn_model.specs.Table.{TableState, Batch, nothing, in_coord, in_topic, in_sub, world_with, resolved}
-use Rattle.txn_model.specs.Shape.{is_topic}
-use Rattle.txn_model.specs.Opening.{names_with, lists_for, world_named}
-use Rattle.txn_model.specs.Replies.{Standing, Kind, Replies}
+use Rattle.txn_model.proofs.Words.{Limits, Reply, is_sub, World, list_at, with_list, append_at, Extends, Flights, followed, kept, TableState, Batch, nothing, in_coord, in_topic, in_sub, world_with, resolved, is_topic, names_with, lists_for, world_named, Standing, Kind, Replies}
 use Rattle.txn_model.proofs.Shapes.{names_grow}
 use Rattle.txn_model.proofs.Moves.{Moves, replies_go}
 

@@ -1,31 +1,11 @@
 -- Over a lawful log, with every part whole, the plain answer is one that the table has. So the table is never without one.
 use Rattle.std.proofs.Common.{◌≡◌, ◌⊎◌, inl, inr, ℕ, Bool, true, false, cond, if◌then◌else◌, List, [], ◌∷◌, ◌++◌, Some, None, refl, sym, ap, ◌∙◌, subst}
-use Rattle.std.specs.Prelude.{Option, MatchBool, MatchOption, is_none, is_some, find}
-use Rattle.std.specs.Option.{option_or}
-use Rattle.txn_base.specs.declared.limits.Limits.{Limits}
-use Rattle.txn_base.specs.declared.txn.TxnId.{TxnId}
-use Rattle.txn_base.specs.declared.txn.Status.{Status}
-use Rattle.txn_base.specs.declared.txn.Decision.{Decision}
-use Rattle.txn_base.specs.declared.txn.Decision.TheVariants.{Commit, Abort}
-use Rattle.txn_base.specs.declared.core_entry.CoreEntry.{CoreEntry}
-use Rattle.txn_base.specs.declared.entry.CoordEntry.{CoordEntry}
-use Rattle.txn_base.specs.declared.request.Request.{Request}
+use Rattle.txn_model.proofs.Words.{Option, MatchBool, MatchOption, is_none, is_some, find, option_or, Limits, TxnId, Status, Decision, Commit, Abort, CoreEntry, CoordEntry, Request, Refusal, nowhere, when, first_of, coord_skeleton, coord_skeletons, decision_skeleton, says_decision, has_new, status_of, decision_of, closing_of, parts_of, is_open, CoordLawful, transactions, is_undriven, is_due, first_due, first_undriven, log_of, TableState, nothing, in_coord, settled, marked, rebuilt, decision_entry, decision_batch, early_refusal, late_rows, late_refusal, is_not_found, Rebuilds, RebuildsAll, MarksAll, Drives, already, closes, uses, Ends, AppendFails, Succeeds, Answers, early, late, granted, tick_target, tick_reply, all_marked, drive_by, end_of, after_tick, plain_success, or_refused, plain_answer}
 use Rattle.txn_base.specs.declared.request.Request.TheVariants as request
-use Rattle.txn_base.specs.declared.reply.Refusal.{Refusal}
 use Rattle.txn_base.specs.declared.reply.Refusal.TheVariants as no
-use Rattle.txn_model.specs.Words.{nowhere, when, first_of}
-use Rattle.txn_model.specs.Skeletons.{coord_skeleton, coord_skeletons}
-use Rattle.txn_model.specs.Coord.{decision_skeleton, says_decision, has_new, status_of, decision_of, closing_of, parts_of, is_open, CoordLawful}
-use Rattle.txn_model.specs.Deadlines.{transactions, is_undriven, is_due, first_due, first_undriven}
-use Rattle.txn_model.specs.World.{log_of}
-use Rattle.txn_model.specs.Table.{TableState, nothing, in_coord, settled, marked, rebuilt, decision_entry, decision_batch}
-use Rattle.txn_model.specs.EarlyRows.{early_refusal}
-use Rattle.txn_model.specs.LateRows.{late_rows, late_refusal, is_not_found}
-use Rattle.txn_model.specs.Drive.{Rebuilds, RebuildsAll, MarksAll, Drives, already, closes}
-use Rattle.txn_model.specs.Answers.{uses, Ends, AppendFails, Succeeds, Answers, early, late, granted, tick_target, tick_reply}
-use Rattle.txn_model.specs.Plain.{all_marked, drive_by, end_of, after_tick, plain_success, or_refused, plain_answer}
-use Rattle.txn_model.proofs.Bools.{no_true, and_l}
+use Rattle.txn_model.proofs.Bools.{no_true, and_l, none_some, some_none}
 use Rattle.txn_model.proofs.Prefixes.{map_append, first_of-append}
+use Rattle.txn_model.proofs.Refused.{passed, status_known}
 use Rattle.txn_model.proofs.Statuses.{Agrees, last_by, status_by, same_self, lawful_agrees}
 
 rebuilds_self : (p : ℕ) (t : TableState) → t.fenced ≡ nowhere → Rebuilds p t t
@@ -38,12 +18,6 @@ all_self (p ∷ ps) t e = (t, rebuilds_self p t e, all_self ps t e)
 marks_self : (x : TxnId) (d : Decision) (ps : List ℕ) (t : TableState) → t.fenced ≡ nowhere → MarksAll x d ps t (all_marked x d ps t)
 marks_self x d [] t e = refl
 marks_self x d (p ∷ ps) t e = (t, rebuilds_self p t e, marks_self x d ps (marked x d p t) e)
-
-none_some : {V : Type 0} {v : V} → None ≡ Some v → ⊥
-none_some h = cc
-
-some_none : {V : Type 0} {v : V} → Some v ≡ None → ⊥
-some_none h = cc
 
 -- ---- A transaction with a status is decided or closed, once its decision is logged.
 
@@ -99,25 +73,6 @@ module _ (rose : ℕ → Type 0) where
       let u : TableState = settled (decision_batch t x d) t in
       drives_by x u (closing_of (log_of u.world) x) (decision_of (log_of u.world) x) e refl refl (ended_by (is_open (status_of (log_of t.world) x)) n t x d h s refl)
 
-  not_missing : (b : Bool) (x : TxnId) → is_some (when b x) ≡ false → b ≡ false
-  not_missing true x h = absurd (no_true (sym h))
-  not_missing false x h = refl
-
-  or_left : (o p : Option Refusal) → option_or o p ≡ None → o ≡ None
-  or_left None p h = refl
-  or_left (Some row) p h = absurd (some_none h)
-
-  when_none : (b : Bool) (row : Refusal) → when b row ≡ None → b ≡ false
-  when_none true row h = absurd (some_none h)
-  when_none false row h = refl
-
-  late_found : (limits : Limits) (t : TableState) (r : Request) → late_refusal limits t r ≡ None → is_not_found t.world r ≡ false
-  late_found limits t r k = when_none (is_not_found t.world r) no.NotFound (or_left (when (is_not_found t.world r) no.NotFound) (rest_of (late_rows limits t r)) k)
-    where
-      rest_of : List (Option Refusal) → Option Refusal
-      rest_of [] = None
-      rest_of (row ∷ rows) = first_of (λ o. o) rows
-
   found : (p : TxnId → Bool) (xs : List TxnId) (x : TxnId) → find p xs ≡ Some x → p x ≡ true
   found p [] x h = absurd (none_some h)
   found p (y ∷ ys) x h = by_test (p y) refl h (found p ys x)
@@ -157,8 +112,8 @@ module _ (rose : ℕ → Type 0) where
 
   success_exists : (n : ℕ) (limits : Limits) (t : TableState) (r : Request) → t.fenced ≡ nowhere → CoordLawful n (log_of t.world) → late_refusal limits t r ≡ None
       → Succeeds limits rose t r (plain_success limits t r).0 (plain_success limits t r).1
-  success_exists n limits t (request.Commit x) e h k = inl ((end_of t x Commit).0, ends_exist n t x Commit e h (not_missing (is_none (status_of (log_of t.world) x)) x (late_found limits t (request.Commit x) k)), refl)
-  success_exists n limits t (request.Abort x) e h k = inl ((end_of t x Abort).0, ends_exist n t x Abort e h (not_missing (is_none (status_of (log_of t.world) x)) x (late_found limits t (request.Abort x) k)), refl)
+  success_exists n limits t (request.Commit x) e h k = inl ((end_of t x Commit).0, ends_exist n t x Commit e h (ap is_none (status_known limits t (request.Commit x) x refl (passed limits t (request.Commit x) k)).1), refl)
+  success_exists n limits t (request.Abort x) e h k = inl ((end_of t x Abort).0, ends_exist n t x Abort e h (ap is_none (status_known limits t (request.Abort x) x refl (passed limits t (request.Abort x) k)).1), refl)
   success_exists n limits t request.Tick e h k = tick_exists n t (tick_target t) e h (target_known t)
   success_exists n limits t (request.New timeout) e h k = inl (refl, refl)
   success_exists n limits t (request.Add x part) e h k = inl (refl, refl)

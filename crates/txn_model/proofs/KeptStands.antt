@@ -3,13 +3,7 @@ use Rattle.std.proofs.Common.{◌≡◌, inl, inr, ℕ, ◌≤◌, arith, Bool, 
 use Rattle.txn_base.specs.Disk.{Files}
 use Rattle.txn_base.specs.Frames.{Record}
 use Rattle.txn_base.specs.Records.{IsCoordRecord, IsAckRecord}
-use Rattle.txn_base.specs.Names.{is_sub}
-use Rattle.txn_model.specs.declared.world.World.{World}
-use Rattle.txn_model.specs.Words.{has, list_at}
-use Rattle.txn_model.specs.World.{Flights, kept}
-use Rattle.txn_model.specs.Table.{TableState}
-use Rattle.txn_model.specs.Shape.{is_topic, topic_parts, sub_parts}
-use Rattle.txn_model.specs.Allowed.{LawfulState}
+use Rattle.txn_model.proofs.Words.{is_sub, World, has, list_at, Flights, kept, TableState, is_topic, topic_parts, sub_parts, LawfulState}
 use Rattle.txn_model.specs.Sound.{ledger_file, StandsForEntries, IsBareRecord, Sound, StandsForKept, StandsForEither, LedgersStand}
 use Rattle.txn_model.proofs.Bools.{no_true}
 use Rattle.txn_model.proofs.Lists.{at_followed}

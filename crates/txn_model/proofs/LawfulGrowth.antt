@@ -1,21 +1,9 @@
 -- A lawful world stays lawful where allowed entries are added.
 use Rattle.std.proofs.Common.{◌≡◌, ◌⊎◌, inl, inr, ℕ, ◌==◌, true, ◌&&◌, List, [], ◌∷◌, ◌++◌, length, Some, None, refl, sym, ap, ◌∙◌, subst}
 use Rattle.std.proofs.lemmas.List.Folds.{list_any-append}
-use Rattle.std.specs.Prelude.{Option}
-use Rattle.std.specs.Option.{option_or}
-use Rattle.txn_base.specs.declared.txn.TxnId.{TxnId}
-use Rattle.txn_base.specs.declared.txn.Decision.{Decision}
-use Rattle.txn_base.specs.declared.core_entry.CoreEntry.{CoreEntry}
+use Rattle.txn_model.proofs.Words.{Option, option_or, TxnId, Decision, CoreEntry, World, all_follow, list_at, same_txn, NamesLawful, is_add, says_decision, says_closing, has_new, status_of, decision_of, closing_of, in_parts, is_open, coord_allows, CoordLawful, marks, marker_of, TopicLawful, AckLawful, is_inside, has_inside, log_of, part_skeletons, Lawful}
 use Rattle.txn_base.specs.declared.core_entry.CoreEntry.TheVariants as core
-use Rattle.txn_model.specs.declared.world.World.{World}
-use Rattle.txn_model.specs.Words.{all_follow, list_at}
-use Rattle.txn_model.specs.Skeletons.{same_txn}
-use Rattle.txn_model.specs.Names.{NamesLawful}
-use Rattle.txn_model.specs.Coord.{is_add, says_decision, says_closing, has_new, status_of, decision_of, closing_of, in_parts, is_open, coord_allows, CoordLawful}
-use Rattle.txn_model.specs.Topic.{marks, marker_of, TopicLawful}
-use Rattle.txn_model.specs.Ack.{AckLawful}
-use Rattle.txn_model.specs.World.{is_inside, has_inside, log_of, part_skeletons, Lawful}
-use Rattle.txn_model.proofs.Bools.{no_true, and_l, and_r, and_both, or_cases, or_l}
+use Rattle.txn_model.proofs.Bools.{no_true, and_l, and_r, and_both, or_cases, or_l, none_some}
 use Rattle.txn_model.proofs.Prefixes.{first_of-append, first_stays, all_follow-append}
 use Rattle.txn_model.proofs.Statuses.{Agrees, status_by, open_means, txn_equal, lawful_agrees}
 
@@ -29,9 +17,6 @@ decision_stays c more x d h = first_stays (says_decision x) c more d h
 
 pub marker_stays : (c more : List CoreEntry) (x : TxnId) (d : Decision) → marker_of c x ≡ Some d → marker_of (c ++ more) x ≡ Some d
 marker_stays c more x d h = first_stays (marks x) c more d h
-
-none_some : {V : Type 0} {v : V} → None ≡ Some v → ⊥
-none_some h = cc
 
 -- what is closed isn't open
 pub closed_not_open : (n : ℕ) (c : List CoreEntry) (x : TxnId) (d : Decision) → CoordLawful n c → closing_of c x ≡ Some d → is_open (status_of c x) ≡ true → ⊥

@@ -1,39 +1,12 @@
 -- Whatever lines are told, the table's state stays lawful: what the table adds is granted, and each move keeps the state.
 use Rattle.std.proofs.Common.{◌≡◌, inl, inr, ℕ, zero, suc, ◌+◌, ◌==◌, ◌≤◌, ◌<◌, arith, eq-eqb, eqb-true, leb-true, eq-or-lt_of_le, Bool, true, false, ◌&&◌, not, cond, if◌then◌else◌, List, [], ◌∷◌, ◌++◌, length, Some, None, refl, sym, ap, ◌∙◌, subst}
 use Rattle.std.proofs.lemmas.List.Folds.{list_any-append}
-use Rattle.std.specs.Prelude.{Option, filter, nat_le, is_none, is_some}
-use Rattle.std.specs.Option.{option_or}
+use Rattle.txn_model.proofs.Words.{Option, filter, nat_le, is_none, is_some, option_or, Limits, TxnId, Decision, Commit, Abort, CoreEntry, AckEntry, Request, Reply, is_sub, topic_of, World, has, list_at, all_follow, numbers_from, same_txn, coord_skeleton, coord_skeletons, topic_skeletons, ack_skeletons, name_of, is_add, closing_skeleton, status_of, decision_of, closing_of, in_parts, parts_of, is_open, coord_allows, marker_of, part_allows, ack_allows, log_of, part_skeletons, has_inside, Lawful, TableState, Batch, nothing, in_coord, in_topic, in_sub, settled, is_fenced, at_moment, decision_entry, decision_batch, closing_entry, closing_batch, topic_marker, ack_marker, marker_batch, is_topic, number_of, acks_in, success_of, acks_batch, Rebuilds, RebuildsAll, MarksAll, with_coord, Standing, Kind, AnswersFrom, Replies, IsAllowed, IsWhole, LawfulState}
 use Rattle.txn_base.specs.Limits.{standard}
-use Rattle.txn_base.specs.declared.limits.Limits.{Limits}
-use Rattle.txn_base.specs.declared.txn.TxnId.{TxnId}
-use Rattle.txn_base.specs.declared.txn.Decision.{Decision}
-use Rattle.txn_base.specs.declared.txn.Decision.TheVariants.{Commit, Abort}
-use Rattle.txn_base.specs.declared.core_entry.CoreEntry.{CoreEntry}
 use Rattle.txn_base.specs.declared.core_entry.CoreEntry.TheVariants as core
 use Rattle.txn_base.specs.declared.entry.CoordEntry.TheVariants as coord
-use Rattle.txn_base.specs.declared.entry.AckEntry.{AckEntry}
-use Rattle.txn_base.specs.declared.request.Request.{Request}
 use Rattle.txn_base.specs.declared.request.Request.TheVariants as request
-use Rattle.txn_base.specs.declared.reply.Reply.{Reply}
-use Rattle.txn_base.specs.Names.{is_sub, topic_of}
-use Rattle.txn_model.specs.declared.world.World.{World}
-use Rattle.txn_model.specs.Words.{has, list_at, all_follow, numbers_from}
-use Rattle.txn_model.specs.Skeletons.{same_txn, coord_skeleton, coord_skeletons, topic_skeletons, ack_skeletons}
-use Rattle.txn_model.specs.Names.{name_of}
-use Rattle.txn_model.specs.Coord.{is_add, closing_skeleton, status_of, decision_of, closing_of, in_parts, parts_of, is_open, coord_allows}
-use Rattle.txn_model.specs.Topic.{marker_of, part_allows}
-use Rattle.txn_model.specs.Ack.{ack_allows}
-use Rattle.txn_model.specs.World.{log_of, part_skeletons, has_inside, Lawful}
-use Rattle.txn_model.specs.Table.{TableState, Batch, nothing, in_coord, in_topic, in_sub, settled, is_fenced, at_moment, decision_entry, decision_batch, closing_entry, closing_batch, topic_marker, ack_marker, marker_batch}
-use Rattle.txn_model.specs.Shape.{is_topic}
-use Rattle.txn_model.specs.Requests.{number_of}
-use Rattle.txn_model.specs.LateRows.{acks_in}
-use Rattle.txn_model.specs.Successes.{success_of, acks_batch}
-use Rattle.txn_model.specs.Drive.{Rebuilds, RebuildsAll, MarksAll}
-use Rattle.txn_model.specs.Answers.{with_coord}
-use Rattle.txn_model.specs.Replies.{Standing, Kind, AnswersFrom, Replies}
-use Rattle.txn_model.specs.Allowed.{IsAllowed, IsWhole, LawfulState}
-use Rattle.txn_model.proofs.Bools.{no_true, and_l, and_r, and_both, or_cases}
+use Rattle.txn_model.proofs.Bools.{no_true, and_l, and_r, and_both, or_cases, none_some}
 use Rattle.txn_model.proofs.Statuses.{txn_equal}
 use Rattle.txn_model.proofs.GrantedEntries.{close_allowed}
 use Rattle.txn_model.proofs.Named.{few_names, named_part}
@@ -41,9 +14,6 @@ use Rattle.txn_model.proofs.LawfulSteps.{same_state, settled_state, fenced_state
 use Rattle.txn_model.proofs.AllowedBatches.{coord_allowed, topic_allowed, sub_allowed}
 use Rattle.txn_model.proofs.Grants.{Granted, nothing_granted, decision_granted, row_granted, topic_part, sub_part}
 use Rattle.txn_model.proofs.Moves.{Stays, rebuilds_stays, all_stay, all_are_whole, topic_marker_skeleton, ack_marker_skeleton, new_marker, IsPart, Ending, has_head, has_later, HaveMarkers, all_marked, WholeFor, MayAdd, of_row, of_decision, of_marker, of_closing, Moves, rebuilds_goes, all_go, marks_go, from_goes, replies_go}
-
-none_some : {V : Type 0} {v : V} → None ≡ Some v → ⊥
-none_some h = cc
 
 -- ---- A marker.
 

@@ -1,13 +1,6 @@
 -- The table's changes keep its state lawful.
 use Rattle.std.proofs.Common.{◌≡◌, ◌⊎◌, inl, inr, ℕ, ◌==◌, eq-eqb, eqb-true, Bool, true, false, if◌then◌else◌, List, [], ◌∷◌, ◌++◌, Some, None, refl, sym, ap, ◌∙◌, subst}
-use Rattle.std.specs.Prelude.{Option}
-use Rattle.txn_base.specs.declared.entry.CoordEntry.{CoordEntry}
-use Rattle.txn_model.specs.declared.world.World.{World}
-use Rattle.txn_model.specs.Words.{list_at, append_at, set_at}
-use Rattle.txn_model.specs.World.{Lawful, Flights, no_flights, followed, kept}
-use Rattle.txn_model.specs.Table.{TableState, Batch, nothing, in_coord, in_topic, in_sub, batch_part, world_with, flights_with, settled, fenced_by, flights_without, resolved, rebuilt, is_fenced}
-use Rattle.txn_model.specs.Shape.{Shaped, IsFor}
-use Rattle.txn_model.specs.Allowed.{IsAllowed, IsWhole, AllowedFlights, FlightsAreFenced, LawfulState}
+use Rattle.txn_model.proofs.Words.{Option, CoordEntry, World, list_at, append_at, set_at, Lawful, Flights, no_flights, followed, kept, TableState, Batch, nothing, in_coord, in_topic, in_sub, batch_part, world_with, flights_with, settled, fenced_by, flights_without, resolved, rebuilt, is_fenced, Shaped, IsFor, IsAllowed, IsWhole, AllowedFlights, FlightsAreFenced, LawfulState}
 use Rattle.txn_model.proofs.Bools.{no_true}
 use Rattle.txn_model.proofs.Lists.{at_append}
 use Rattle.txn_model.proofs.Shapes.{shaped_with, shaped_kept}

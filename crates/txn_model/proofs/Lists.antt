@@ -1,8 +1,6 @@
 -- Lists beside the parts to which they belong: what a change of one leaves of the others.
 use Rattle.std.proofs.Common.{◌≡◌, ℕ, ◌==◌, eq-eqb, eqb-true, Bool, true, false, if◌then◌else◌, List, [], ◌∷◌, ◌++◌, refl, sym, ap, ◌∙◌}
-use Rattle.txn_model.specs.Words.{has, list_at, with_list, append_at}
-use Rattle.txn_model.specs.World.{followed}
-use Rattle.txn_model.specs.Shape.{parts_with}
+use Rattle.txn_model.proofs.Words.{has, list_at, with_list, append_at, followed, parts_with}
 use Rattle.txn_model.proofs.Bools.{no_true}
 
 eqb_turn : (a b : ℕ) → (a == b) ≡ true → (b == a) ≡ true

@@ -1,35 +1,9 @@
 -- Whatever lines are told, the table's state moves: parts are recovered, batches are added, and appends fail. What holds of
 -- each of these moves, and of moves one after another, holds from the state before the lines to the state after them.
 use Rattle.std.proofs.Common.{◌≡◌, ◌⊎◌, inl, inr, ℕ, zero, suc, ◌==◌, ◌≤◌, arith, eq-eqb, eqb-true, Bool, true, false, cond, if◌then◌else◌, List, [], ◌∷◌, ◌++◌, length, Some, None, refl, sym, ap, ◌∙◌, subst}
-use Rattle.std.specs.Prelude.{Option, MatchBool, MatchOption, is_none, is_some, filter}
-use Rattle.std.specs.Option.{option_or}
-use Rattle.txn_base.specs.declared.limits.Limits.{Limits}
-use Rattle.txn_base.specs.declared.txn.TxnId.{TxnId}
-use Rattle.txn_base.specs.declared.txn.Decision.{Decision}
-use Rattle.txn_base.specs.declared.txn.Decision.TheVariants.{Commit, Abort}
-use Rattle.txn_base.specs.declared.core_entry.CoreEntry.{CoreEntry}
+use Rattle.txn_model.proofs.Words.{Option, MatchBool, MatchOption, is_none, is_some, filter, option_or, Limits, TxnId, Decision, Commit, Abort, CoreEntry, Request, Reply, Outcome, Why, is_sub, World, has, list_at, append_at, set_at, numbers_from, coord_skeletons, topic_skeleton, topic_skeletons, ack_skeleton, ack_skeletons, name_of, decision_of, closing_of, in_parts, parts_of, marks, marker_of, log_of, part_skeletons, no_flights, kept, TableState, Batch, nothing, in_coord, in_topic, in_sub, batch_part, world_with, flights_with, settled, fenced_by, resolved, rebuilt, is_fenced, at_moment, decision_batch, closing_batch, topic_marker, ack_marker, marker_batch, given_after, marked, early_refusal, late_refusal, success_of, Rebuilds, RebuildsAll, StaysFenced, RefusedAt, MarksAll, StopsAt, recovery_fault, recovery_memory, marker_memory, marker_fault, StopsWithin, Drives, already, closes, close_fault, stops, uses, AppendFails, Fulfils, Ends, Succeeds, Answers, early, unrecovered, unread, late, granted, no_memory, no_memory_later, tick_target, tick_reply, reads_clock, moved, end_of, after_end, after_drive, after_tick, after_success, plain_success, is_stopped, is_fault, Standing, RoseAt, Kind, too_long, blank, form, AnswersFrom, Replied, Replies}
 use Rattle.txn_base.specs.declared.core_entry.CoreEntry.TheVariants as core
-use Rattle.txn_base.specs.declared.request.Request.{Request}
 use Rattle.txn_base.specs.declared.request.Request.TheVariants as request
-use Rattle.txn_base.specs.declared.reply.Reply.{Reply}
-use Rattle.txn_base.specs.declared.reply.Outcome.{Outcome}
-use Rattle.txn_base.specs.declared.reply.Why.{Why}
-use Rattle.txn_base.specs.Names.{is_sub}
-use Rattle.txn_model.specs.declared.world.World.{World}
-use Rattle.txn_model.specs.Words.{has, list_at, append_at, set_at, numbers_from}
-use Rattle.txn_model.specs.Skeletons.{coord_skeletons, topic_skeleton, topic_skeletons, ack_skeleton, ack_skeletons}
-use Rattle.txn_model.specs.Names.{name_of}
-use Rattle.txn_model.specs.Coord.{decision_of, closing_of, in_parts, parts_of}
-use Rattle.txn_model.specs.Topic.{marks, marker_of}
-use Rattle.txn_model.specs.World.{log_of, part_skeletons, no_flights, kept}
-use Rattle.txn_model.specs.Table.{TableState, Batch, nothing, in_coord, in_topic, in_sub, batch_part, world_with, flights_with, settled, fenced_by, resolved, rebuilt, is_fenced, at_moment, decision_batch, closing_batch, topic_marker, ack_marker, marker_batch, given_after, marked}
-use Rattle.txn_model.specs.EarlyRows.{early_refusal}
-use Rattle.txn_model.specs.LateRows.{late_refusal}
-use Rattle.txn_model.specs.Successes.{success_of}
-use Rattle.txn_model.specs.Drive.{Rebuilds, RebuildsAll, StaysFenced, RefusedAt, MarksAll, StopsAt, recovery_fault, recovery_memory, marker_memory, marker_fault, StopsWithin, Drives, already, closes, close_fault, stops}
-use Rattle.txn_model.specs.Answers.{uses, AppendFails, Fulfils, Ends, Succeeds, Answers, early, unrecovered, unread, late, granted, no_memory, no_memory_later, tick_target, tick_reply, reads_clock, moved}
-use Rattle.txn_model.specs.Plain.{end_of, after_end, after_drive, after_tick, after_success, plain_success}
-use Rattle.txn_model.specs.Replies.{is_stopped, is_fault, Standing, RoseAt, Kind, too_long, blank, form, AnswersFrom, Replied, Replies}
 use Rattle.txn_model.proofs.Bools.{no_true}
 use Rattle.txn_model.proofs.Prefixes.{map_append, first_of-append}
 use Rattle.txn_model.proofs.Lists.{at_append}

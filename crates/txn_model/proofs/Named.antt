@@ -1,13 +1,9 @@
 -- A name that the catalog has, its number, and its kind.
 use Rattle.std.proofs.Common.{◌≡◌, ℕ, zero, suc, ◌+◌, ◌-◌, ◌==◌, ◌≤◌, ◌<◌, arith, eq-eqb, eqb-true, Bool, true, false, ◌&&◌, if◌then◌else◌, List, [], ◌∷◌, ◌++◌, length, length-append, Some, None, refl, sym, ap, ◌∙◌, subst, get_or}
-use Rattle.std.specs.Prelude.{Option, option_map, position, bytes_eq, codes, nat_lt, not, ◌||◌}
+use Rattle.txn_model.proofs.Words.{Option, option_map, position, bytes_eq, codes, nat_lt, not, ◌||◌, has, all_follow, part_of, name_of, has_name, name_allows, NamesLawful, is_name, is_sub, topic_of, numbered}
 use Rattle.std.proofs.lemmas.Bool.{ltb-true}
 use Rattle.std.proofs.lemmas.Slice.Eq.{bytes_eq-Decides}
 use Rattle.std.proofs.lemmas.List.Quantifiers.{position-Some}
-use Rattle.txn_model.specs.Words.{has, all_follow}
-use Rattle.txn_model.specs.Names.{part_of, name_of, has_name, name_allows, NamesLawful}
-use Rattle.txn_base.specs.Names.{is_name, is_sub, topic_of}
-use Rattle.txn_model.specs.Shape.{numbered}
 use Rattle.txn_model.proofs.Bools.{and_l, and_r}
 use Rattle.txn_model.proofs.LawfulSteps.{part_or}
 

@@ -1,16 +1,12 @@
 -- Files stand for one world.
 use Rattle.std.proofs.Common.{◌≡◌, ℕ, suc, ◌==◌, ◌≤◌, ◌<◌, arith, eq-eqb, eqb-true, Bool, true, false, if◌then◌else◌, List, [], ◌∷◌, ◌++◌, refl, sym, ap, ◌∙◌, subst}
-use Rattle.std.specs.Prelude.{All, map}
+use Rattle.txn_model.proofs.Words.{All, map, is_sub, World, has, list_at, numbered, is_topic, topic_parts, sub_parts, parts_with}
 use Rattle.std.proofs.lemmas.List.Elements.{All-head, All-tail}
 use Rattle.txn_base.specs.Disk.{Files}
 use Rattle.txn_base.specs.Decoded.{coord_entry_of, topic_entry_of, ack_entry_of}
 use Rattle.txn_base.specs.Frames.{Record, Batch, Stands, records}
 use Rattle.txn_base.specs.Records.{IsCoordRecord, IsAckRecord}
 use Rattle.txn_base.proofs.Laws.{stands_one}
-use Rattle.txn_base.specs.Names.{is_sub}
-use Rattle.txn_model.specs.declared.world.World.{World}
-use Rattle.txn_model.specs.Words.{has, list_at}
-use Rattle.txn_model.specs.Shape.{numbered, is_topic, topic_parts, sub_parts, parts_with}
 use Rattle.txn_model.specs.Sound.{ledger_file, RecordsOf, StandsForEntries, IsBareRecord, StandsFor}
 use Rattle.txn_model.proofs.Bools.{no_true}
 use Rattle.txn_model.proofs.Decodings.{coord_of, topic_of_record, ack_of_record}

@@ -1,24 +1,8 @@
 -- Where nothing fails and every part is whole, the only answer beside want of memory is the plain one.
 use Rattle.std.proofs.Common.{◌≡◌, ◌⊎◌, inl, inr, ℕ, Bool, true, List, [], ◌∷◌, None, sym, ap, ◌∙◌, subst}
-use Rattle.std.specs.Prelude.{MatchBool}
-use Rattle.std.specs.Option.{option_or}
-use Rattle.txn_base.specs.declared.limits.Limits.{Limits}
-use Rattle.txn_base.specs.declared.txn.TxnId.{TxnId}
-use Rattle.txn_base.specs.declared.txn.Decision.{Decision}
-use Rattle.txn_base.specs.declared.request.Request.{Request}
-use Rattle.txn_base.specs.declared.reply.Reply.{Reply}
+use Rattle.txn_model.proofs.Words.{MatchBool, option_or, Limits, TxnId, Decision, Request, Reply, Outcome, Why, nowhere, decision_of, parts_of, log_of, TableState, settled, marked, rebuilt, is_fenced, decision_batch, closing_batch, late_refusal, Rebuilds, RebuildsAll, RefusedAt, MarksAll, StopsAt, recovery_fault, recovery_memory, marker_memory, marker_fault, StopsWithin, Drives, already, closes, close_fault, stops, uses, Succeeds, Answers, early, unrecovered, unread, late, granted, no_memory, no_memory_later, all_marked, drive_by, drive_of, end_of, plain_success, or_refused, plain_answer}
 use Rattle.txn_base.specs.declared.reply.Reply.TheVariants as reply
-use Rattle.txn_base.specs.declared.reply.Outcome.{Outcome}
-use Rattle.txn_base.specs.declared.reply.Why.{Why}
 use Rattle.txn_base.specs.declared.reply.Refusal.TheVariants as no
-use Rattle.txn_model.specs.Words.{nowhere}
-use Rattle.txn_model.specs.Coord.{decision_of, parts_of}
-use Rattle.txn_model.specs.World.{log_of}
-use Rattle.txn_model.specs.Table.{TableState, settled, marked, rebuilt, is_fenced, decision_batch, closing_batch}
-use Rattle.txn_model.specs.LateRows.{late_refusal}
-use Rattle.txn_model.specs.Drive.{Rebuilds, RebuildsAll, RefusedAt, MarksAll, StopsAt, recovery_fault, recovery_memory, marker_memory, marker_fault, StopsWithin, Drives, already, closes, close_fault, stops}
-use Rattle.txn_model.specs.Answers.{uses, Succeeds, Answers, early, unrecovered, unread, late, granted, no_memory, no_memory_later}
-use Rattle.txn_model.specs.Plain.{all_marked, drive_by, drive_of, end_of, plain_success, or_refused, plain_answer}
 use Rattle.txn_model.proofs.Bools.{no_true}
 use Rattle.txn_model.proofs.Moves.{Way, by_row, is_idle, by_end, way}
 

@@ -1,8 +1,6 @@
 -- The numbers of names: each is that of a topic or of a subscription, and none is past the names.
 use Rattle.std.proofs.Common.{◌≡◌, ℕ, suc, ◌+◌, ◌==◌, ◌≤◌, ◌<◌, arith, eqb-true, Bool, true, false, not, if◌then◌else◌, List, [], ◌∷◌, length, refl, sym, ◌∙◌}
-use Rattle.txn_base.specs.Names.{is_sub}
-use Rattle.txn_model.specs.Words.{has}
-use Rattle.txn_model.specs.Shape.{numbered, is_topic}
+use Rattle.txn_model.proofs.Words.{is_sub, has, numbered, is_topic}
 use Rattle.txn_model.proofs.Bools.{no_true}
 
 -- a number among those from k on lies there

@@ -1,16 +1,7 @@
 -- The places of the visible messages are the visible places of the skeletons.
 use Rattle.std.proofs.Common.{◌≡◌, ℕ, suc, List, [], ◌∷◌, Some, None, refl, ap}
-use Rattle.std.specs.Prelude.{Option, map}
-use Rattle.txn_base.specs.declared.txn.Decision.{Decision}
-use Rattle.txn_base.specs.declared.txn.Decision.TheVariants.{Commit, Abort}
-use Rattle.txn_base.specs.declared.messages.Message.{Message}
-use Rattle.txn_base.specs.declared.core_entry.CoreEntry.{CoreEntry}
-use Rattle.txn_base.specs.declared.entry.TopicEntry.{TopicEntry}
+use Rattle.txn_model.proofs.Words.{Option, map, Decision, Commit, Abort, Message, CoreEntry, TopicEntry, topic_skeletons, marker_of, shown, visible_from, visible_of, message_at, shown_place, visible_places_from, visible_places}
 use Rattle.txn_base.specs.declared.entry.TopicEntry.TheVariants as topic
-use Rattle.txn_model.specs.Skeletons.{topic_skeletons}
-use Rattle.txn_model.specs.Topic.{marker_of, shown, visible_from, visible_of}
-use Rattle.txn_model.specs.Entries.{message_at}
-use Rattle.txn_model.specs.VisiblePlaces.{shown_place, visible_places_from, visible_places}
 
 abbrev places_of : List Message → List ℕ
 places_of ms = map (λ m. m.place) ms

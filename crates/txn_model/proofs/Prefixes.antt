@@ -1,24 +1,10 @@
 -- What stays of a list that is made longer.
 use Rattle.std.proofs.Common.{◌≡◌, inl, inr, ℕ, suc, ◌≤◌, arith, Bool, true, false, ◌&&◌, if◌then◌else◌, List, [], ◌∷◌, ◌++◌, Some, None, refl, sym, ap, ◌∙◌, subst, append_assoc}
-use Rattle.std.specs.Prelude.{Option, map, is_none}
-use Rattle.std.specs.Option.{option_or}
-use Rattle.std.specs.List.{list_any}
+use Rattle.txn_model.proofs.Words.{Option, map, is_none, option_or, list_any, TxnId, Decision, Commit, Abort, Message, CoreEntry, TopicEntry, AckEntry, first_of, all_follow, topic_skeleton, ack_skeleton, topic_skeletons, ack_skeletons, marks, marker_of, is_undecided, limit_from, limit_of, shown, visible_from, visible_of, message_at, covers, is_commit, counts, is_acked}
 use mathlib.Core.List.{IsPrefix}
-use Rattle.txn_base.specs.declared.txn.TxnId.{TxnId}
-use Rattle.txn_base.specs.declared.txn.Decision.{Decision}
-use Rattle.txn_base.specs.declared.txn.Decision.TheVariants.{Commit, Abort}
-use Rattle.txn_base.specs.declared.messages.Message.{Message}
-use Rattle.txn_base.specs.declared.core_entry.CoreEntry.{CoreEntry}
 use Rattle.txn_base.specs.declared.core_entry.CoreEntry.TheVariants as core
-use Rattle.txn_base.specs.declared.entry.TopicEntry.{TopicEntry}
 use Rattle.txn_base.specs.declared.entry.TopicEntry.TheVariants as topic
-use Rattle.txn_base.specs.declared.entry.AckEntry.{AckEntry}
 use Rattle.txn_base.specs.declared.entry.AckEntry.TheVariants as ack
-use Rattle.txn_model.specs.Words.{first_of, all_follow}
-use Rattle.txn_model.specs.Skeletons.{topic_skeleton, ack_skeleton, topic_skeletons, ack_skeletons}
-use Rattle.txn_model.specs.Topic.{marks, marker_of, is_undecided, limit_from, limit_of, shown, visible_from, visible_of}
-use Rattle.txn_model.specs.Entries.{message_at}
-use Rattle.txn_model.specs.Ack.{covers, is_commit, counts, is_acked}
 use Rattle.txn_model.proofs.Bools.{no_true, and_l, and_r, and_both, and_assoc, or_cases, or_l, or_r}
 
 option_or-assoc : {V : Type 0} (a b c : Option V) → option_or a (option_or b c) ≡ option_or (option_or a b) c

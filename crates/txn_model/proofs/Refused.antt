@@ -1,36 +1,11 @@
 -- What is known of a request that no row refuses.
 use Rattle.std.proofs.Common.{◌≡◌, ℕ, Bool, true, false, ◌&&◌, ◌||◌, not, if◌then◌else◌, List, [], ◌∷◌, Some, None, refl, sym, ap, ◌∙◌, subst}
-use Rattle.std.specs.Prelude.{Option, option_map, option_and_then, unwrap_or, is_none, is_some, find}
-use Rattle.txn_base.specs.declared.limits.Limits.{Limits}
-use Rattle.txn_base.specs.declared.txn.TxnId.{TxnId}
-use Rattle.txn_base.specs.declared.txn.Status.{Status}
-use Rattle.txn_base.specs.declared.entry.AckEntry.{AckEntry}
-use Rattle.txn_base.specs.declared.request.Ack.{Ack}
-use Rattle.txn_base.specs.declared.request.Request.{Request}
-use Rattle.txn_base.specs.declared.reply.Refusal.{Refusal}
+use Rattle.txn_model.proofs.Words.{Option, option_map, option_and_then, unwrap_or, is_none, is_some, find, Limits, TxnId, Status, AckEntry, Ack, Request, Refusal, World, when, that, first_said, below, part_of, status_of, in_parts, marker_of, holder_of, is_foreign, log_of, part_skeletons, TableState, named, fits_kind, txn_of, ack_of, adds_inside, number_of, name_in, part_in, ack_list, limit_in, asks, unread_place, conflict, unknown_name, wrong_kind, early_rows, early_refusal, is_not_found, forbids, has_ended, forbidding_status, unregistered, unread_in, acked_in, conflict_in, late_rows, late_refusal}
 use Rattle.txn_base.specs.declared.reply.Refusal.TheVariants as no
-use Rattle.txn_model.specs.declared.world.World.{World}
-use Rattle.txn_model.specs.Words.{when, that, first_said, below}
-use Rattle.txn_model.specs.Names.{part_of}
-use Rattle.txn_model.specs.Coord.{status_of, in_parts}
-use Rattle.txn_model.specs.Topic.{marker_of}
-use Rattle.txn_model.specs.Ack.{holder_of, is_foreign}
-use Rattle.txn_model.specs.World.{log_of, part_skeletons}
-use Rattle.txn_model.specs.Table.{TableState}
-use Rattle.txn_model.specs.Requests.{named, fits_kind, txn_of, ack_of, adds_inside, number_of, name_in, part_in, ack_list, limit_in}
-use Rattle.txn_model.specs.AckRules.{asks, unread_place, conflict}
 use Rattle.txn_model.specs.EarlyRows as early_row
-use Rattle.txn_model.specs.EarlyRows.{unknown_name, wrong_kind, early_rows, early_refusal}
-use Rattle.txn_model.specs.LateRows.{is_not_found, forbids, has_ended, forbidding_status, unregistered, unread_in, acked_in, conflict_in, late_rows, late_refusal}
-use Rattle.txn_model.proofs.Bools.{no_true, and_r}
+use Rattle.txn_model.proofs.Bools.{no_true, and_r, none_some, some_none}
 use Rattle.txn_model.proofs.LawfulSteps.{part_or}
 use Rattle.txn_model.proofs.Named.{Known, known}
-
-none_some : {V : Type 0} {v : V} → None ≡ Some v → ⊥
-none_some h = cc
-
-some_none : {V : Type 0} {v : V} → Some v ≡ None → ⊥
-some_none h = cc
 
 abbrev tail_of : {V : Type 0} → List V → List V
 tail_of [] = []

@@ -2,18 +2,8 @@
 use Rattle.std.proofs.Common.{◌≡◌, ℕ, suc, ◌+◌, arith, Bool, true, false, if◌then◌else◌, List, [], ◌∷◌, ◌++◌, length, refl, sym, ap, ◌∙◌, subst, append_assoc}
 use Rattle.std.proofs.Math.Seq.{drop-append_seam}
 use Rattle.std.proofs.lemmas.List.{append-nil}
-use Rattle.std.specs.Prelude.{map}
+use Rattle.txn_model.proofs.Words.{map, is_sub, TopicEntry, AckEntry, World, has, list_at, has_name, Flights, kept, Batch, nothing, in_coord, in_topic, in_sub, world_with, numbered, is_topic, parts_with, Shaped, IsFor, names_with, lists_for, world_named}
 use mathlib.Core.List.{IsPrefix}
-use Rattle.txn_base.specs.Names.{is_sub}
-use Rattle.txn_base.specs.declared.entry.TopicEntry.{TopicEntry}
-use Rattle.txn_base.specs.declared.entry.AckEntry.{AckEntry}
-use Rattle.txn_model.specs.declared.world.World.{World}
-use Rattle.txn_model.specs.Words.{has, list_at}
-use Rattle.txn_model.specs.Names.{has_name}
-use Rattle.txn_model.specs.World.{Flights, kept}
-use Rattle.txn_model.specs.Table.{Batch, nothing, in_coord, in_topic, in_sub, world_with}
-use Rattle.txn_model.specs.Shape.{numbered, is_topic, parts_with, Shaped, IsFor}
-use Rattle.txn_model.specs.Opening.{names_with, lists_for, world_named}
 use Rattle.txn_model.proofs.Lists.{parts_with_list, parts_followed}
 use Rattle.txn_model.proofs.Prefixes.{map_append}
 

@@ -1,16 +1,7 @@
 -- The visible messages, entry by entry.
 use Rattle.std.proofs.Common.{◌≡◌, ℕ, suc, if◌then◌else◌, List, [], ◌∷◌, ◌++◌, Some, None, refl}
-use Rattle.std.specs.Prelude.{Option, option_to_list}
-use Rattle.txn_base.specs.declared.txn.Decision.{Decision}
-use Rattle.txn_base.specs.declared.txn.Decision.TheVariants.{Commit, Abort}
-use Rattle.txn_base.specs.declared.messages.Message.{Message}
-use Rattle.txn_base.specs.declared.core_entry.CoreEntry.{CoreEntry}
-use Rattle.txn_base.specs.declared.entry.TopicEntry.{TopicEntry}
+use Rattle.txn_model.proofs.Words.{Option, option_to_list, Decision, Commit, Abort, Message, CoreEntry, TopicEntry, is_none, topic_skeleton, marker_of, is_undecided, shown, shown_where, shows, visible_from, message_at}
 use Rattle.txn_base.specs.declared.entry.TopicEntry.TheVariants as topic
-use Rattle.std.specs.Prelude.{is_none}
-use Rattle.txn_model.specs.Skeletons.{topic_skeleton}
-use Rattle.txn_model.specs.Topic.{marker_of, is_undecided, shown, shown_where, shows, visible_from}
-use Rattle.txn_model.specs.Entries.{message_at}
 
 shown_split : (o : Option Decision) (m : Message) (rest : List Message) → shown o m rest ≡ (if is_none o then [] else option_to_list (shown_where o m) ++ rest)
 shown_split None m rest = refl

@@ -1,18 +1,8 @@
 -- In a lawful log the status is what the decision and the closing make it, and no transaction is decided twice.
 use Rattle.std.proofs.Common.{◌≡◌, ℕ, eq-eqb, eqb-true, ◌==◌, Bool, true, false, ◌&&◌, ◌||◌, if◌then◌else◌, List, [], ◌∷◌, ◌++◌, Some, None, refl, sym, ap, ◌∙◌, subst, append_assoc}
 use Rattle.std.proofs.lemmas.List.Folds.{list_any-append}
-use Rattle.std.specs.Prelude.{Option, unwrap_or}
-use Rattle.std.specs.Option.{option_or}
-use Rattle.txn_base.specs.declared.txn.TxnId.{TxnId}
-use Rattle.txn_base.specs.declared.txn.Decision.{Decision}
-use Rattle.txn_base.specs.declared.txn.Decision.TheVariants.{Commit, Abort}
-use Rattle.txn_base.specs.declared.txn.Status.{Status}
-use Rattle.txn_base.specs.declared.txn.Status.TheVariants.{Open}
-use Rattle.txn_base.specs.declared.core_entry.CoreEntry.{CoreEntry}
+use Rattle.txn_model.proofs.Words.{Option, unwrap_or, option_or, TxnId, Decision, Commit, Abort, Status, Open, CoreEntry, last_of, all_follow, same_txn, decision_skeleton, closing_skeleton, deciding, closed, is_new, says_status, says_decision, says_closing, has_new, status_of, decision_of, closing_of, is_open, is_deciding, coord_allows, CoordLawful}
 use Rattle.txn_base.specs.declared.core_entry.CoreEntry.TheVariants as core
-use Rattle.txn_model.specs.Words.{last_of, all_follow}
-use Rattle.txn_model.specs.Skeletons.{same_txn}
-use Rattle.txn_model.specs.Coord.{decision_skeleton, closing_skeleton, deciding, closed, is_new, says_status, says_decision, says_closing, has_new, status_of, decision_of, closing_of, is_open, is_deciding, coord_allows, CoordLawful}
 use Rattle.txn_model.proofs.Bools.{no_true, and_l, and_r, and_both, or_l}
 use Rattle.txn_model.proofs.Prefixes.{first_of-append, all_follow-append}
 

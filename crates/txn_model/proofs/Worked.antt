@@ -1,18 +1,10 @@
 -- Worked examples, computed.
 use Rattle.std.specs.Prelude.{◌≡◌, ℕ, List, [], ◌∷◌, Some, None, codes, refl}
 use Rattle.txn_base.specs.Limits.{standard}
-use Rattle.txn_base.specs.declared.txn.Decision.TheVariants.{Commit, Abort}
-use Rattle.txn_base.specs.declared.txn.Status.TheVariants.{Committed, Aborted}
-use Rattle.txn_base.specs.declared.request.Request.{Request}
+use Rattle.txn_model.proofs.Words.{Commit, Abort, Committed, Aborted, Request, message_at, txn, ended, TableState, plain_replies, fresh}
 use Rattle.txn_base.specs.declared.request.Request.TheVariants as request
 use Rattle.txn_base.specs.declared.reply.Reply.TheVariants as reply
 use Rattle.txn_base.specs.declared.reply.Refusal.TheVariants as no
-use Rattle.txn_model.specs.Entries.{message_at}
-use Rattle.txn_model.specs.Deadlines.{txn}
-use Rattle.txn_model.specs.Drive.{ended}
-use Rattle.txn_model.specs.Table.{TableState}
-use Rattle.txn_model.specs.Plain.{plain_replies}
-use Rattle.txn_model.specs.Opening.{fresh}
 
 abbrev orders : List ℕ
 orders = codes "orders"

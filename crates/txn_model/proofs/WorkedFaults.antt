@@ -1,21 +1,10 @@
 -- A commit that a fault stops at a topic, and its repeat, as the table has them.
-use Rattle.std.specs.Prelude.{◌≡◌, ℕ, Bool, true, false, List, [], ◌∷◌, Some, codes, refl}
+use Rattle.txn_model.proofs.Words.{◌≡◌, ℕ, Bool, true, false, List, [], ◌∷◌, Some, codes, refl, Commit, Committing, Committed, Request, Outcome, message_at, txn, TableState, settled, fenced_by, rebuilt, marked, marker_batch, closing_batch, decision_batch, ended, closes, stops, marker_fault, Answers, granted, moved, plain_answer, fresh}
 use Rattle.std.proofs.Common.{inl}
 use Rattle.txn_base.specs.Limits.{standard}
-use Rattle.txn_base.specs.declared.txn.Decision.TheVariants.{Commit}
-use Rattle.txn_base.specs.declared.txn.Status.TheVariants.{Committing, Committed}
-use Rattle.txn_base.specs.declared.request.Request.{Request}
 use Rattle.txn_base.specs.declared.request.Request.TheVariants as request
 use Rattle.txn_base.specs.declared.reply.Reply.TheVariants as reply
-use Rattle.txn_base.specs.declared.reply.Outcome.{Outcome}
 use Rattle.txn_base.specs.declared.reply.Why.TheVariants as why
-use Rattle.txn_model.specs.Entries.{message_at}
-use Rattle.txn_model.specs.Deadlines.{txn}
-use Rattle.txn_model.specs.Table.{TableState, settled, fenced_by, rebuilt, marked, marker_batch, closing_batch, decision_batch}
-use Rattle.txn_model.specs.Drive.{ended, closes, stops, marker_fault}
-use Rattle.txn_model.specs.Answers.{Answers, granted, moved}
-use Rattle.txn_model.specs.Plain.{plain_answer}
-use Rattle.txn_model.specs.Opening.{fresh}
 
 abbrev orders : List ℕ
 orders = codes "orders"

@@ -4,21 +4,9 @@ use Rattle.txn_base.specs.Limits.{standard}
 use Rattle.txn_base.specs.declared.entry.CoordEntry.TheVariants as coord
 use Rattle.txn_base.specs.declared.entry.TopicEntry.TheVariants as topic
 use Rattle.txn_base.specs.declared.entry.AckEntry.TheVariants as ack
-use Rattle.txn_base.specs.declared.request.Request.{Request}
+use Rattle.txn_model.proofs.Words.{Request, all_follow, list_at, coord_skeletons, topic_skeletons, NamesLawful, name_allows, coord_allows, CoordLawful, parts_of, part_allows, TopicLawful, ack_allows, AckLawful, holder_of, txn, low_of, log_of, TableState, plain_answer, fresh, moved}
 use Rattle.txn_base.specs.declared.request.Request.TheVariants as request
 use Rattle.txn_base.specs.Bytes.{only_bytes}
-use Rattle.txn_model.specs.Words.{all_follow, list_at}
-use Rattle.txn_model.specs.Skeletons.{coord_skeletons, topic_skeletons}
-use Rattle.txn_model.specs.Names.{NamesLawful, name_allows}
-use Rattle.txn_model.specs.Coord.{coord_allows, CoordLawful, parts_of}
-use Rattle.txn_model.specs.Topic.{part_allows, TopicLawful}
-use Rattle.txn_model.specs.Ack.{ack_allows, AckLawful, holder_of}
-use Rattle.txn_model.specs.Deadlines.{txn, low_of}
-use Rattle.txn_model.specs.World.{log_of}
-use Rattle.txn_model.specs.Table.{TableState}
-use Rattle.txn_model.specs.Plain.{plain_answer}
-use Rattle.txn_model.specs.Opening.{fresh}
-use Rattle.txn_model.specs.Answers.{moved}
 
 abbrev after : TableState → List Request → TableState
 after t [] = t

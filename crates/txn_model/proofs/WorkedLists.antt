@@ -1,26 +1,12 @@
 -- The definitions of single lists, computed on small ones.
 use Rattle.std.specs.Prelude.{◌≡◌, ℕ, true, false, List, [], ◌∷◌, map, Option, Some, None, codes, refl}
 use Rattle.txn_base.specs.Limits.{standard}
-use Rattle.txn_base.specs.declared.limits.Limits.{Limits}
-use Rattle.txn_base.specs.declared.txn.Decision.TheVariants.{Commit, Abort}
-use Rattle.txn_base.specs.declared.txn.Status.TheVariants.{Open, Committing, Committed, Aborting, Aborted}
-use Rattle.txn_base.specs.declared.core_entry.CoreEntry.{CoreEntry}
+use Rattle.txn_model.proofs.Words.{Limits, Commit, Abort, Open, Committing, Committed, Aborting, Aborted, CoreEntry, CoordEntry, TopicEntry, AckEntry, first_bad, coord_skeletons, topic_skeletons, message_at, coord_allows, status_of, decision_of, closing_of, parts_of, count_new, txn, low_of, first_due, first_undriven, left_of, marker_of, part_allows, limit_of, visible_of, read_slice, visible_places, is_acked, holder_of, held_count, ack_allows}
 use Rattle.txn_base.specs.declared.core_entry.CoreEntry.TheVariants as core
-use Rattle.txn_base.specs.declared.entry.CoordEntry.{CoordEntry}
 use Rattle.txn_base.specs.declared.entry.CoordEntry.TheVariants as coord
-use Rattle.txn_base.specs.declared.entry.TopicEntry.{TopicEntry}
 use Rattle.txn_base.specs.declared.entry.TopicEntry.TheVariants as topic
-use Rattle.txn_base.specs.declared.entry.AckEntry.{AckEntry}
 use Rattle.txn_base.specs.declared.entry.AckEntry.TheVariants as ack
 use Rattle.txn_base.specs.Bytes.{only_bytes}
-use Rattle.txn_model.specs.Words.{first_bad}
-use Rattle.txn_model.specs.Skeletons.{coord_skeletons, topic_skeletons}
-use Rattle.txn_model.specs.Entries.{message_at}
-use Rattle.txn_model.specs.Coord.{coord_allows, status_of, decision_of, closing_of, parts_of, count_new}
-use Rattle.txn_model.specs.Deadlines.{txn, low_of, first_due, first_undriven, left_of}
-use Rattle.txn_model.specs.Topic.{marker_of, part_allows, limit_of, visible_of, read_slice}
-use Rattle.txn_model.specs.VisiblePlaces.{visible_places}
-use Rattle.txn_model.specs.Ack.{is_acked, holder_of, held_count, ack_allows}
 
 -- ---- A coordinator's log, in which each status stands.
 

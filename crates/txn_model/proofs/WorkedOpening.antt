@@ -1,17 +1,12 @@
 -- Opening, computed.
 use Rattle.std.specs.Prelude.{◌≡◌, [], ◌∷◌, codes, refl}
 use Rattle.txn_base.specs.Limits.{standard}
-use Rattle.txn_base.specs.declared.txn.Status.TheVariants.{Committed}
+use Rattle.txn_model.proofs.Words.{Committed, World, message_at, txn, plain_replies, opened}
 use Rattle.txn_base.specs.declared.entry.CoordEntry.TheVariants as coord
 use Rattle.txn_base.specs.declared.entry.TopicEntry.TheVariants as topic
 use Rattle.txn_base.specs.declared.request.Request.TheVariants as request
 use Rattle.txn_base.specs.declared.reply.Reply.TheVariants as reply
-use Rattle.txn_model.specs.declared.world.World.{World}
 use Rattle.txn_base.specs.Bytes.{only_bytes}
-use Rattle.txn_model.specs.Entries.{message_at}
-use Rattle.txn_model.specs.Deadlines.{txn}
-use Rattle.txn_model.specs.Plain.{plain_replies}
-use Rattle.txn_model.specs.Opening.{opened}
 
 abbrev left_committing : World
 left_committing =

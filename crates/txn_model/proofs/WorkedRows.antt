@@ -1,25 +1,12 @@
 -- Rows of the table at their bounds, computed.
 use Rattle.std.specs.Prelude.{◌≡◌, ℕ, List, [], ◌∷◌, Some, None, codes, refl}
 use Rattle.txn_base.specs.Limits.{standard}
-use Rattle.txn_base.specs.declared.limits.Limits.{Limits}
-use Rattle.txn_base.specs.declared.core_entry.CoreEntry.{CoreEntry}
+use Rattle.txn_model.proofs.Words.{Limits, CoreEntry, AckEntry, These, UpTo, Request, Transactions, Log, Held, first_bad, coord_allows, part_allows, txn, unread_place, acked_place, conflict, new_places, newly_held, acks_added, full_transactions, full_held, full_log, plain_replies, fresh}
 use Rattle.txn_base.specs.declared.core_entry.CoreEntry.TheVariants as core
-use Rattle.txn_base.specs.declared.entry.AckEntry.{AckEntry}
 use Rattle.txn_base.specs.declared.entry.AckEntry.TheVariants as ack
-use Rattle.txn_base.specs.declared.request.Ack.TheVariants.{These, UpTo}
-use Rattle.txn_base.specs.declared.request.Request.{Request}
 use Rattle.txn_base.specs.declared.request.Request.TheVariants as request
 use Rattle.txn_base.specs.declared.reply.Reply.TheVariants as reply
 use Rattle.txn_base.specs.declared.reply.Refusal.TheVariants as no
-use Rattle.txn_base.specs.declared.reply.What.TheVariants.{Transactions, Log, Held}
-use Rattle.txn_model.specs.Words.{first_bad}
-use Rattle.txn_model.specs.Coord.{coord_allows}
-use Rattle.txn_model.specs.Topic.{part_allows}
-use Rattle.txn_model.specs.Deadlines.{txn}
-use Rattle.txn_model.specs.AckRules.{unread_place, acked_place, conflict, new_places, newly_held, acks_added}
-use Rattle.txn_model.specs.Full.{full_transactions, full_held, full_log}
-use Rattle.txn_model.specs.Plain.{plain_replies}
-use Rattle.txn_model.specs.Opening.{fresh}
 use Rattle.txn_model.specs.Cut.{lines_of}
 
 -- ---- Acknowledgements.

@@ -1,19 +1,11 @@
 -- The file that one plain message leaves, and the world for which the files then stand.
 use Rattle.std.proofs.Common.{◌≡◌, ℕ, ◌==◌, ◌&&◌, ◌<◌, arith, rules, eqb-true, Bool, true, false, if◌then◌else◌, List, [], ◌∷◌, Some, None, refl, sym, subst}
-use Rattle.std.specs.Prelude.{codes}
+use Rattle.txn_model.proofs.Words.{codes, TxnId, Decision, TopicEntry, World, list_at, topic_skeletons, TopicLawful, marker_of, Lawful, has_inside}
 use Rattle.std.proofs.lemmas.List.Elements.{All-nil, All-cons}
-use Rattle.txn_base.specs.declared.txn.TxnId.{TxnId}
-use Rattle.txn_base.specs.declared.txn.Decision.{Decision}
-use Rattle.txn_base.specs.declared.entry.TopicEntry.{TopicEntry}
 use Rattle.txn_base.specs.declared.entry.TopicEntry.TheVariants as topic
 use Rattle.txn_base.specs.Bytes.{only_bytes}
 use Rattle.txn_base.specs.Disk.{Files, same_file}
 use Rattle.txn_base.specs.Frames.{Batch, IsRecord, IsBatch, Stands}
-use Rattle.txn_model.specs.declared.world.World.{World}
-use Rattle.txn_model.specs.Words.{list_at}
-use Rattle.txn_model.specs.Skeletons.{topic_skeletons}
-use Rattle.txn_model.specs.Topic.{TopicLawful, marker_of}
-use Rattle.txn_model.specs.World.{Lawful, has_inside}
 use Rattle.txn_model.specs.Sound.{part_file, ledger_file, StandsForEntries, IsBareRecord, StandsFor, Sound}
 use Rattle.txn_model.proofs.Bools.{no_true, and_l}
 

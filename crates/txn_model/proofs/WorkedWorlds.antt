@@ -2,28 +2,15 @@
 use Rattle.std.specs.Prelude.{◌≡◌, ◌==◌, ℕ, Bool, true, false, if◌then◌else◌, List, [], ◌∷◌, Some, None, codes, refl}
 use mathlib.Core.List.{IsPrefix}
 use Rattle.txn_base.specs.Limits.{standard}
-use Rattle.txn_base.specs.declared.limits.Limits.{Limits}
-use Rattle.txn_base.specs.declared.txn.Decision.TheVariants.{Commit, Abort}
-use Rattle.txn_base.specs.declared.txn.Status.TheVariants.{Committing}
-use Rattle.txn_base.specs.declared.core_entry.CoreEntry.{CoreEntry}
+use Rattle.txn_model.proofs.Words.{Limits, Commit, Abort, Committing, CoreEntry, TopicEntry, AckEntry, Transactions, Log, World, part_of, name_of, txn, RegisteredFirst, MarkerDecided, ClosedComplete, Extends, Flights, kept, part_skeletons, early_refusal, late_refusal, table_over, names_with}
 use Rattle.txn_base.specs.declared.core_entry.CoreEntry.TheVariants as core
 use Rattle.txn_base.specs.declared.entry.CoordEntry.TheVariants as coord
-use Rattle.txn_base.specs.declared.entry.TopicEntry.{TopicEntry}
 use Rattle.txn_base.specs.declared.entry.TopicEntry.TheVariants as topic
-use Rattle.txn_base.specs.declared.entry.AckEntry.{AckEntry}
 use Rattle.txn_base.specs.declared.entry.AckEntry.TheVariants as ack
 use Rattle.txn_base.specs.declared.request.Request.TheVariants as request
 use Rattle.txn_base.specs.declared.reply.Refusal.TheVariants as no
-use Rattle.txn_base.specs.declared.reply.What.TheVariants.{Transactions, Log}
 use Rattle.txn_base.specs.Bytes.{only_bytes}
-use Rattle.txn_model.specs.declared.world.World.{World}
-use Rattle.txn_model.specs.Names.{part_of, name_of}
-use Rattle.txn_model.specs.Deadlines.{txn}
-use Rattle.txn_model.specs.World.{RegisteredFirst, MarkerDecided, ClosedComplete, Extends, Flights, kept, part_skeletons}
-use Rattle.txn_model.specs.EarlyRows.{early_refusal}
-use Rattle.txn_model.specs.LateRows.{late_refusal}
-use Rattle.txn_model.specs.Opening.{table_over, names_with}
-use Rattle.txn_model.proofs.Bools.{no_true}
+use Rattle.txn_model.proofs.Bools.{no_true, none_some}
 
 abbrev orders : List ℕ
 orders = codes "orders"
@@ -110,9 +97,6 @@ alone es p = if p == 1 then es else []
 
 pub message_of_an_unregistered_part : RegisteredFirst (core.New (txn 0) ∷ core.AddPart (txn 0) 2 ∷ []) (alone (core.Inside (txn 0) ∷ [])) → ⊥
 message_of_an_unregistered_part rule = no_true (rule 1 (txn 0) refl)
-
-none_some : {V : Type 0} {v : V} → None ≡ Some v → ⊥
-none_some h = cc
 
 pub marker_without_a_decision : MarkerDecided (core.New (txn 0) ∷ core.AddPart (txn 0) 1 ∷ []) (alone (core.Marker (txn 0) Commit ∷ [])) → ⊥
 marker_without_a_decision rule = none_some (rule 1 (txn 0) Commit refl)
