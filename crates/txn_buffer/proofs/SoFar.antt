@@ -9,7 +9,8 @@ use Rattle.txn_base.specs.declared.messages.Message.{Message}
 use Rattle.txn_base.specs.declared.entry.TopicEntry.{TopicEntry}
 use Rattle.txn_base.specs.declared.limits.Limits.{Limits}
 use Rattle.txn_model.specs.Skeletons.{topic_skeletons}
-use Rattle.txn_model.specs.Topic.{shows, limit_of, read_slice, visible_from, fitting, first_and_fitting}
+use Rattle.txn_model.specs.Topic.{shows, limit_of, read_slice, fitting, first_and_fitting}
+use Rattle.txn_model.proofs.Laws.Topics.{visible_from}
 use Rattle.txn_buffer.specs.Reading.{rest_of, GoesOn, IsCut, visible_later}
 use Rattle.txn_buffer.proofs.Visible.{all_later, begins, ends, nothing_later, one_more, take_nothing, empty_slice, whole_slice}
 

@@ -11,9 +11,9 @@ use Rattle.txn_base.specs.declared.entry.TopicEntry.{TopicEntry}
 use Rattle.txn_base.specs.declared.entry.TopicEntry.TheVariants as topic
 use Rattle.txn_base.specs.declared.limits.Limits.{Limits}
 use Rattle.txn_model.specs.Skeletons.{topic_skeleton, topic_skeletons}
-use Rattle.txn_model.specs.Topic.{marker_of, is_undecided, limit_from, limit_of, shown_where, shows, visible_from, visible_of, read_slice, cut_short, first_and_fitting}
+use Rattle.txn_model.specs.Topic.{marker_of, is_undecided, limit_from, limit_of, shown_where, shows, visible_of, read_slice, cut_short, first_and_fitting}
 use Rattle.txn_model.specs.Entries.{message_at}
-use Rattle.txn_model.proofs.Laws.Topics.{visible_split}
+use Rattle.txn_model.proofs.Laws.Topics.{visible_split, visible_from, visible_fused}
 use Rattle.txn_buffer.specs.Reading.{rest_of, visible_later}
 
 -- what an entry shows stands at its place
@@ -143,13 +143,14 @@ limit_within es = let h = limit_below (topic_skeletons es) 0 (topic_skeletons es
 
 pub begins : (es : List TopicEntry) (first : ℕ) → first ≤ limit_of es → visible_later es first ≡ visible_from (topic_skeletons es) first (drop first es)
 begins es first h =
-    ap (λ n. filter (λ m. nat_le n m.place) (visible_of es)) (omega arith) ∙ later_are (topic_skeletons es) 0 first es (omega (arith, h)) ∙ ap (λ n. visible_from (topic_skeletons es) n (drop first es)) (omega arith)
+    ap (filter (λ m. nat_le first m.place)) (visible_fused es) ∙ ap (λ n. filter (λ m. nat_le n m.place) (visible_from (topic_skeletons es) 0 es)) (omega arith) ∙ later_are (topic_skeletons es) 0 first es (omega (arith, h)) ∙ ap (λ n. visible_from (topic_skeletons es) n (drop first es)) (omega arith)
 
 pub ends : (es : List TopicEntry) (place : ℕ) → limit_of es ≡ place → visible_from (topic_skeletons es) place (drop place es) ≡ []
 ends es place h = ap (λ n. visible_from (topic_skeletons es) n (drop place es)) (omega arith) ∙ at_limit (topic_skeletons es) 0 place es (h ∙ omega arith)
 
 pub nothing_later : (es : List TopicEntry) (first : ℕ) → limit_of es ≤ first → visible_later es first ≡ []
-nothing_later es first h = filter_none first (visible_of es) (visible_below (topic_skeletons es) 0 first es h)
+nothing_later es first h =
+    ap (filter (λ m. nat_le first m.place)) (visible_fused es) ∙ filter_none first (visible_from (topic_skeletons es) 0 es) (visible_below (topic_skeletons es) 0 first es h)
 
 pub one_more : (es : List TopicEntry) (place : ℕ) (d : TopicEntry) → place < limit_of es
     → visible_from (topic_skeletons es) place (drop place es) ≡ option_to_list (shows (topic_skeletons es) place (get_or es place d)) ++ visible_from (topic_skeletons es) (suc place) (drop (suc place) es)

@@ -1,5 +1,5 @@
 -- When a batch is allowed over a lawful world.
-use Rattle.std.proofs.Common.{◌≡◌, ℕ, ◌==◌, eqb-true, Bool, true, false, ◌&&◌, if◌then◌else◌, List, [], ◌∷◌, ◌++◌, length, Some, None, refl, sym, ap, ◌∙◌, subst}
+use Rattle.std.proofs.Common.{◌≡◌, ℕ, ◌==◌, eqb-true, Bool, true, false, ◌&&◌, if◌then◌else◌, List, [], ◌∷◌, ◌++◌, length, Some, refl, sym, ap, ◌∙◌, subst}
 use Rattle.std.proofs.lemmas.List.{append-nil}
 use Rattle.txn_model.proofs.Words.{TxnId, Decision, CoordEntry, TopicEntry, AckEntry, is_sub, World, all_follow, list_at, coord_skeleton, topic_skeleton, topic_skeletons, ack_skeleton, ack_skeletons, name_of, coord_allows, decision_of, closing_of, in_parts, part_allows, TopicLawful, marker_of, ack_allows, AckLawful, log_of, part_skeletons, has_inside, Lawful, no_flights, nothing, in_coord, in_topic, in_sub, AllowedFlights, IsAllowed}
 use Rattle.txn_model.proofs.Bools.{no_true, and_both, none_some}

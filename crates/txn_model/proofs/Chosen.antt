@@ -1,5 +1,5 @@
 -- A lawful world stays lawful where of its allowed flights some are kept, each whole.
-use Rattle.std.proofs.Common.{◌≡◌, ◌⊎◌, inl, inr, ℕ, ◌==◌, eqb-true, Bool, true, false, if◌then◌else◌, List, [], ◌∷◌, ◌++◌, length, Some, None, refl, sym, ap, ◌∙◌, subst}
+use Rattle.std.proofs.Common.{◌≡◌, ◌⊎◌, inl, inr, ℕ, ◌==◌, eqb-true, Bool, true, false, if◌then◌else◌, List, [], ◌∷◌, ◌++◌, length, Some, refl, sym, ap, ◌∙◌, subst}
 use Rattle.std.proofs.lemmas.List.{append-nil}
 use Rattle.txn_model.proofs.Words.{TxnId, Decision, CoreEntry, CoordEntry, TopicEntry, AckEntry, is_sub, World, list_at, coord_skeleton, coord_skeletons, topic_skeleton, topic_skeletons, ack_skeleton, ack_skeletons, name_of, CoordLawful, decision_of, closing_of, in_parts, TopicLawful, marker_of, AckLawful, log_of, part_skeletons, has_inside, Lawful, Flights, followed, kept, flight_skeletons, AllowedFlights}
 use Rattle.txn_model.proofs.Bools.{no_true, none_some}

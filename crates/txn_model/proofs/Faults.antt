@@ -1,13 +1,13 @@
 -- Each reply that tells of a fault was paid by a rise of the count of faults.
 use Rattle.std.proofs.Common.{◌≡◌, inl, inr, ℕ, ◌+◌, ◌-◌, ◌^◌, ◌≤◌, min, arith, zero-add, cond, Bool, true, false, List, [], ◌∷◌, Some, None, refl, sym, ap, ◌∙◌, subst}
 use Rattle.std.proofs.lemmas.List.Sums.{sum_by-append}
-use Rattle.txn_model.proofs.Words.{Option, option_map, list_all, Limits, TxnId, Decision, Request, Reply, Outcome, Why, Refusal, Transactions, Log, Held, World, first_of, when, parts_of, log_of, TableState, settled, marked, decision_batch, limit_in, early_rows, early_refusal, late_rows, late_refusal, success_of, StopsAt, recovery_fault, recovery_memory, marker_memory, marker_fault, StopsWithin, Drives, already, closes, close_fault, stops, Answers, early, unrecovered, unread, late, granted, no_memory, no_memory_later, tick_reply, moved, is_fault_why, is_stopped, is_fault, count_faults, Standing, RoseAt, Kind, too_long, blank, form, AnswersFrom, Replied, Replies}
+use Rattle.txn_model.proofs.Words.{Option, option_map, list_all, Limits, TxnId, Decision, Request, Reply, Outcome, Why, Refusal, Transactions, Log, Held, World, first_of, when, parts_of, log_of, TableState, settled, marked, decision_batch, limit_in, early_rows, late_rows, success_of, StopsAt, recovery_fault, recovery_memory, marker_memory, marker_fault, StopsWithin, Drives, already, closes, close_fault, stops, Answers, early, unrecovered, unread, late, granted, no_memory, no_memory_later, tick_reply, moved, is_fault_why, is_stopped, is_fault, count_faults, Standing, RoseAt, Kind, too_long, blank, form, AnswersFrom, Replied, Replies}
 use Rattle.txn_base.specs.declared.reply.Reply.TheVariants as reply
 use Rattle.txn_base.specs.declared.reply.Why.TheVariants as why
 use Rattle.txn_base.specs.declared.reply.Refusal.TheVariants as no
 use Rattle.txn_model.specs.EarlyRows as early_row
 use Rattle.txn_model.specs.LateRows as late_row
-use Rattle.txn_model.proofs.Bools.{no_true, and_l, and_both}
+use Rattle.txn_model.proofs.Bools.{no_true, and_l, and_both, none_some}
 use Rattle.txn_model.proofs.Moves.{Way, by_row, is_idle, by_end, way}
 
 -- a row that is none, or tells of no fault
@@ -40,9 +40,6 @@ safe_tells (no.Full what count) h = refl
 
 first_safe : (rows : List (Option Refusal)) (row : Refusal) → list_all safe rows ≡ true → first_of (λ r. r) rows ≡ Some row → safe (Some row) ≡ true
 first_safe [] row h e = absurd (none_some e)
-  where
-    none_some : {row : Refusal} → None ≡ Some row → ⊥
-    none_some e = cc
 first_safe (None ∷ rows) row h e = first_safe rows row h e
 first_safe (Some r ∷ rows) row h e = ap safe (sym e) ∙ and_l (safe (Some r)) (list_all safe rows) h
 

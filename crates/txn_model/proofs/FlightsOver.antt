@@ -1,5 +1,5 @@
 -- Which flights are allowed over a world that has grown.
-use Rattle.std.proofs.Common.{◌≡◌, ◌⊎◌, inl, inr, ℕ, ◌==◌, eq-eqb, eqb-true, Bool, true, false, if◌then◌else◌, List, [], ◌∷◌, ◌++◌, length, Some, None, refl, sym, ap, ◌∙◌, subst}
+use Rattle.std.proofs.Common.{◌≡◌, ◌⊎◌, inl, inr, ℕ, ◌==◌, eq-eqb, eqb-true, Bool, true, false, if◌then◌else◌, List, [], ◌∷◌, ◌++◌, length, Some, refl, sym, ap, ◌∙◌, subst}
 use Rattle.std.proofs.lemmas.List.{append-nil}
 use Rattle.txn_model.proofs.Words.{TxnId, Decision, CoreEntry, TopicEntry, AckEntry, is_sub, World, list_at, append_at, set_at, coord_skeletons, topic_skeletons, ack_skeletons, name_of, CoordLawful, decision_of, closing_of, in_parts, TopicLawful, marker_of, AckLawful, log_of, part_skeletons, has_inside, Lawful, Flights, no_flights, Batch, nothing, in_coord, in_topic, in_sub, world_with, flights_with, log_with, flight_skeletons, AllowedFlights}
 use Rattle.txn_model.proofs.Bools.{no_true, none_some}

@@ -1,9 +1,9 @@
 -- The entries of the coordinator and of a topic that the table adds are allowed after those that stand.
 use Rattle.std.proofs.Common.{◌≡◌, ℕ, eq-eqb, ◌==◌, true, List, [], ◌∷◌, ◌++◌, Some, None, refl, sym, ap, ◌∙◌, subst}
-use Rattle.txn_model.proofs.Words.{Option, map, is_none, option_or, TxnId, Decision, Commit, Abort, CoreEntry, all_follow, topic_skeletons, closing_skeleton, has_new, status_of, closing_of, decision_of, count_new, deciding, is_deciding, coord_allows, CoordLawful, txn, marks, marker_of, part_allows, message_entry}
+use Rattle.txn_model.proofs.Words.{map, is_none, TxnId, Decision, Commit, Abort, CoreEntry, all_follow, topic_skeletons, closing_skeleton, has_new, status_of, closing_of, decision_of, count_new, deciding, is_deciding, coord_allows, CoordLawful, txn, marks, marker_of, part_allows, message_entry}
 use Rattle.txn_base.specs.declared.core_entry.CoreEntry.TheVariants as core
 use Rattle.txn_model.proofs.Bools.{and_both}
-use Rattle.txn_model.proofs.Prefixes.{first_of-append}
+use Rattle.txn_model.proofs.Prefixes.{or_none, first_of-append}
 use Rattle.txn_model.proofs.Statuses.{Agrees, last_by, status_by, lawful_agrees}
 
 -- the next number is begun
@@ -25,10 +25,6 @@ close_allowed n c x d h k e =
     let a : Agrees c x = lawful_agrees n c x h in
     subst (λ l. is_deciding d (status_by (has_new c x) l) ≡ true) (sym (a.said ∙ (ap (λ u. last_by u (decision_of c x)) k ∙ ap (λ u. last_by None u) e)))
     (subst (λ b. is_deciding d (status_by b (Some (deciding d))) ≡ true) (sym (a.when_decided d e)) (deciding_is d)))
-
-or_none : {V : Type 0} (o : Option V) → option_or o None ≡ o
-or_none None = refl
-or_none (Some v) = refl
 
 still_unmarked : (es : List CoreEntry) (x y : TxnId) → marker_of (es ++ core.Inside y ∷ []) x ≡ marker_of es x
 still_unmarked es x y = first_of-append (marks x) es (core.Inside y ∷ []) ∙ or_none (marker_of es x)

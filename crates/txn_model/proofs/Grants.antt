@@ -1,6 +1,6 @@
 -- What a request adds that no row refuses is allowed.
 use Rattle.std.proofs.Common.{◌≡◌, ℕ, ◌+◌, ◌<◌, ◌≤◌, leb-false, le-leb, Bool, true, false, ◌&&◌, ◌||◌, not, if◌then◌else◌, List, [], ◌∷◌, length, Some, None, refl, sym, ap, ◌∙◌, subst}
-use Rattle.txn_model.proofs.Words.{Option, map, find, is_none, nat_le, list_all, Limits, TxnId, Decision, Commit, Abort, Status, AckEntry, Ack, These, UpTo, Request, is_sub, World, list_at, below, same_txn, topic_skeletons, ack_skeleton, ack_skeletons, message_entry, name_of, count_new, status_of, in_parts, is_open, txn, part_allows, marker_of, holder_of, is_free, is_foreign, places_allow, asks, unread_place, new_places, ack_entry, acks_for, log_of, part_skeletons, has_inside, Lawful, TableState, Batch, nothing, in_coord, in_topic, in_sub, decision_entry, decision_batch, is_topic, IsFor, number_of, limit_in, early_refusal, late_refusal, forbids, has_ended, acks_batch, success_of, IsAllowed}
+use Rattle.txn_model.proofs.Words.{Option, map, find, is_none, nat_le, list_all, Limits, TxnId, Decision, Commit, Abort, Status, AckEntry, Ack, These, UpTo, Request, is_sub, World, list_at, below, same_txn, topic_skeletons, ack_skeleton, ack_skeletons, message_entry, name_of, count_new, status_of, in_parts, is_open, txn, part_allows, marker_of, holder_of, is_free, is_foreign, places_allow, asks, unread_place, new_places, ack_entry, acks_for, log_of, part_skeletons, has_inside, Lawful, TableState, Batch, nothing, in_coord, in_topic, in_sub, decision_entry, decision_batch, is_topic, IsFor, number_of, limit_in, early_refusal, late_refusal, forbids, has_ended, acks_batch, success_of, IsAllowed, named, fits_kind, txn_of, adds_inside, ack_of, part_in, ack_list, unwrap_or}
 use Rattle.txn_base.specs.declared.entry.CoordEntry.TheVariants as coord
 use Rattle.txn_base.specs.declared.entry.AckEntry.TheVariants as ack
 use Rattle.txn_base.specs.declared.request.Request.TheVariants as request
@@ -53,17 +53,14 @@ inside_same (body ∷ bodies) x y h = by_test (same_txn y x) refl h (inside_same
     by_test true e h rest = txn_equal y x e
     by_test false e h rest = rest h
 
-messages_unmarked : (bodies : List (List ℕ)) (x y : TxnId) → marker_of (topic_skeletons (map (message_entry (Some x)) bodies)) y ≡ None
-messages_unmarked [] x y = refl
-messages_unmarked (body ∷ bodies) x y = messages_unmarked bodies x y
+messages_unmarked : (bodies : List (List ℕ)) (who : Option TxnId) (y : TxnId) → marker_of (topic_skeletons (map (message_entry who) bodies)) y ≡ None
+messages_unmarked [] who y = refl
+messages_unmarked (body ∷ bodies) None y = messages_unmarked bodies None y
+messages_unmarked (body ∷ bodies) (Some x) y = messages_unmarked bodies (Some x) y
 
 plain_insides : (bodies : List (List ℕ)) (y : TxnId) → has_inside (topic_skeletons (map (message_entry None) bodies)) y ≡ false
 plain_insides [] y = refl
 plain_insides (body ∷ bodies) y = plain_insides bodies y
-
-plain_unmarked : (bodies : List (List ℕ)) (y : TxnId) → marker_of (topic_skeletons (map (message_entry None) bodies)) y ≡ None
-plain_unmarked [] y = refl
-plain_unmarked (body ∷ bodies) y = plain_unmarked bodies y
 
 not_true : (b : Bool) → not b ≡ true → b ≡ false
 not_true true h = absurd (no_true h)
@@ -82,7 +79,7 @@ plain_granted w p bodies l fits =
       fits = fits;
       allowed = topic_allowed w p (map (message_entry None) bodies) l (plain_allowed (topic_skeletons (list_at w.topics p)) bodies)
           (λ x h. absurd (no_true (sym (plain_insides bodies x) ∙ h)))
-          (λ x d h. absurd (none_some (sym (plain_unmarked bodies x) ∙ h)));
+          (λ x d h. absurd (none_some (sym (messages_unmarked bodies None x) ∙ h)));
     }
 
 inside_granted : (w : World) (p : ℕ) (x : TxnId) (bodies : List (List ℕ)) → Lawful w → IsFor (in_topic p []) w.names → marker_of (topic_skeletons (list_at w.topics p)) x ≡ None → in_parts (log_of w) x p ≡ true
@@ -92,7 +89,7 @@ inside_granted w p x bodies l fits unmarked there =
       fits = fits;
       allowed = topic_allowed w p (map (message_entry (Some x)) bodies) l (messages_allowed (topic_skeletons (list_at w.topics p)) x bodies unmarked)
           (λ y h. subst (λ z. in_parts (log_of w) z p ≡ true) (sym (inside_same bodies x y h)) there)
-          (λ y d h. absurd (none_some (sym (messages_unmarked bodies x y) ∙ h)));
+          (λ y d h. absurd (none_some (sym (messages_unmarked bodies (Some x) y) ∙ h)));
     }
 
 -- ---- Subscriptions.
@@ -122,19 +119,15 @@ kind_allowed w p None (UpTo place) new may = refl
 kind_allowed w p (Some x) (These places) new may = ap is_none may.0
 kind_allowed w p (Some x) (UpTo place) new may = ap is_none may.0
 
+one_inside : (w : World) (p : ℕ) (x y : TxnId) (b : Bool) → same_txn y x ≡ b → in_parts (log_of w) x p ≡ true → (b || false) ≡ true → in_parts (log_of w) y p ≡ true
+one_inside w p x y true e there h = subst (λ z. in_parts (log_of w) z p ≡ true) (sym (txn_equal y x e)) there
+one_inside w p x y false e there h = absurd (no_true h)
+
 entry_inside : (w : World) (p : ℕ) (who : Option TxnId) (asked : Ack) (new : List ℕ) → MayHold w p who → (y : TxnId) → has_inside (ack_skeleton (ack_entry who asked new) ∷ []) y ≡ true → in_parts (log_of w) y p ≡ true
 entry_inside w p None (These places) new may y h = absurd (no_true h)
 entry_inside w p None (UpTo place) new may y h = absurd (no_true h)
-entry_inside w p (Some x) (These places) new may y h = one_inside (same_txn y x) refl h
-  where
-    one_inside : (b : Bool) → same_txn y x ≡ b → (b || false) ≡ true → in_parts (log_of w) y p ≡ true
-    one_inside true e h = subst (λ z. in_parts (log_of w) z p ≡ true) (sym (txn_equal y x e)) may.1
-    one_inside false e h = absurd (no_true h)
-entry_inside w p (Some x) (UpTo place) new may y h = one_inside (same_txn y x) refl h
-  where
-    one_inside : (b : Bool) → same_txn y x ≡ b → (b || false) ≡ true → in_parts (log_of w) y p ≡ true
-    one_inside true e h = subst (λ z. in_parts (log_of w) z p ≡ true) (sym (txn_equal y x e)) may.1
-    one_inside false e h = absurd (no_true h)
+entry_inside w p (Some x) (These places) new may y h = one_inside w p x y (same_txn y x) refl may.1 h
+entry_inside w p (Some x) (UpTo place) new may y h = one_inside w p x y (same_txn y x) refl may.1 h
 
 entry_unmarked : (who : Option TxnId) (asked : Ack) (new : List ℕ) (y : TxnId) → marker_of (ack_skeleton (ack_entry who asked new) ∷ []) y ≡ None
 entry_unmarked None (These places) new y = refl
@@ -174,6 +167,25 @@ for_topic w r name k e = named_part is_topic w.names (number_of w name) k.low k.
 for_sub : (w : World) (r : Request) (name : List ℕ) (k : Known w.names name (number_of w name)) → is_sub name ≡ true → IsFor (in_sub (number_of w name) (ack.PlainUpTo 0)) w.names
 for_sub w r name k e = named_part is_sub w.names (number_of w name) k.low k.high (ap is_sub k.named ∙ e)
 
+acks_row : (limits : Limits) (t : TableState) (r : Request) (sub : List ℕ) (asked : Ack) → Lawful t.world → early_refusal limits t.world r ≡ None → late_refusal limits t r ≡ None
+    → named r ≡ Some sub → fits_kind r sub ≡ is_sub sub → adds_inside r ≡ true → ack_of r ≡ Some asked
+    → Granted (acks_batch (part_in t.world r) (acks_for (txn_of r) asked (new_places (limit_in t.world r) (ack_list t.world r) asked))) t.world
+acks_row limits t r sub asked l early late is kind adds asks =
+    let found : (p : ℕ) × Naming t.world r sub p = naming limits t.world r sub is early in
+    let k : Known t.world.names sub (number_of t.world sub) = part_is t.world r sub found in
+    let part : part_in t.world r ≡ number_of t.world sub = ap (λ o. number_of t.world (unwrap_or o [])) is in
+    let is_one : is_sub sub ≡ true = sym kind ∙ found.1.kind in
+    let done : Passed limits t r = passed limits t r late in
+    acks_granted t.world (part_in t.world r) (limit_in t.world r) (txn_of r) asked l
+    (subst (λ p. IsFor (in_sub p (ack.PlainUpTo 0)) t.world.names) (sym part) (for_sub t.world r sub k is_one))
+    (may_hold (ap (λ p. is_sub (name_of t.world.names p)) part ∙ ap is_sub k.named ∙ is_one) done (txn_of r) refl)
+    (unread_none limits t r asked asks done) (conflict_free limits t r asked asks done)
+  where
+    may_hold : is_sub (name_of t.world.names (part_in t.world r)) ≡ true → Passed limits t r → (who : Option TxnId) → txn_of r ≡ who → MayHold t.world (part_in t.world r) who
+    may_hold e done None h = tt
+    may_hold e done (Some x) h = let inside : Inside t.world r x = inside_known limits t r x h adds done in
+        (subst (λ s. marker_of s x ≡ None) (sub_part t.world (part_in t.world r) e) inside.unmarked, inside.in_its_parts)
+
 pub row_granted : (limits : Limits) (t : TableState) (r : Request) → Lawful t.world → early_refusal limits t.world r ≡ None → late_refusal limits t r ≡ None → Granted (success_of limits t r).adds t.world
 row_granted limits t (request.New timeout) l early late =
     record { fits = tt; allowed = coord_allowed t.world (coord.New (txn (count_new (log_of t.world))) (t.latest + timeout)) l (new_allowed (length t.world.names) (log_of t.world)) (λ x d p h. absurd (none_some h)) }
@@ -194,36 +206,8 @@ row_granted limits t (request.Publish topic (Some x) bodies) l early late =
     let inside : Inside t.world r x = inside_known limits t r x refl refl (passed limits t r late) in
     inside_granted t.world (number_of t.world topic) x bodies l (for_topic t.world r topic k is)
     (subst (λ s. marker_of s x ≡ None) (topic_part t.world (number_of t.world topic) (ap is_sub k.named ∙ is)) inside.unmarked) inside.in_its_parts
-row_granted limits t (request.Ack sub None places) l early late =
-    let r : Request = request.Ack sub None places in
-    let found : (p : ℕ) × Naming t.world r sub p = naming limits t.world r sub refl early in
-    let done : Passed limits t r = passed limits t r late in
-    acks_granted t.world (number_of t.world sub) (limit_in t.world r) None (These places) l (for_sub t.world r sub (part_is t.world r sub found) found.1.kind) tt
-    (unread_none limits t r (These places) refl done) (conflict_free limits t r (These places) refl done)
-row_granted limits t (request.Ack sub (Some x) places) l early late =
-    let r : Request = request.Ack sub (Some x) places in
-    let found : (p : ℕ) × Naming t.world r sub p = naming limits t.world r sub refl early in
-    let k : Known t.world.names sub (number_of t.world sub) = part_is t.world r sub found in
-    let done : Passed limits t r = passed limits t r late in
-    let inside : Inside t.world r x = inside_known limits t r x refl refl done in
-    acks_granted t.world (number_of t.world sub) (limit_in t.world r) (Some x) (These places) l (for_sub t.world r sub k found.1.kind)
-    (subst (λ s. marker_of s x ≡ None) (sub_part t.world (number_of t.world sub) (ap is_sub k.named ∙ found.1.kind)) inside.unmarked, inside.in_its_parts)
-    (unread_none limits t r (These places) refl done) (conflict_free limits t r (These places) refl done)
-row_granted limits t (request.AckUpTo sub None place) l early late =
-    let r : Request = request.AckUpTo sub None place in
-    let found : (p : ℕ) × Naming t.world r sub p = naming limits t.world r sub refl early in
-    let done : Passed limits t r = passed limits t r late in
-    acks_granted t.world (number_of t.world sub) (limit_in t.world r) None (UpTo place) l (for_sub t.world r sub (part_is t.world r sub found) found.1.kind) tt
-    (unread_none limits t r (UpTo place) refl done) (conflict_free limits t r (UpTo place) refl done)
-row_granted limits t (request.AckUpTo sub (Some x) place) l early late =
-    let r : Request = request.AckUpTo sub (Some x) place in
-    let found : (p : ℕ) × Naming t.world r sub p = naming limits t.world r sub refl early in
-    let k : Known t.world.names sub (number_of t.world sub) = part_is t.world r sub found in
-    let done : Passed limits t r = passed limits t r late in
-    let inside : Inside t.world r x = inside_known limits t r x refl refl done in
-    acks_granted t.world (number_of t.world sub) (limit_in t.world r) (Some x) (UpTo place) l (for_sub t.world r sub k found.1.kind)
-    (subst (λ s. marker_of s x ≡ None) (sub_part t.world (number_of t.world sub) (ap is_sub k.named ∙ found.1.kind)) inside.unmarked, inside.in_its_parts)
-    (unread_none limits t r (UpTo place) refl done) (conflict_free limits t r (UpTo place) refl done)
+row_granted limits t (request.Ack sub who places) l early late = acks_row limits t (request.Ack sub who places) sub (These places) l early late refl refl refl refl
+row_granted limits t (request.AckUpTo sub who place) l early late = acks_row limits t (request.AckUpTo sub who place) sub (UpTo place) l early late refl refl refl refl
 row_granted limits t (request.Commit x) l early late = nothing_granted t.world l
 row_granted limits t (request.Abort x) l early late = nothing_granted t.world l
 row_granted limits t (request.Status x) l early late = nothing_granted t.world l

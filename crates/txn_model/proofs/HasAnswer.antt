@@ -1,8 +1,7 @@
 -- Over a lawful log, with every part whole, the plain answer is one that the table has. So the table is never without one.
 use Rattle.std.proofs.Common.{◌≡◌, ◌⊎◌, inl, inr, ℕ, Bool, true, false, cond, if◌then◌else◌, List, [], ◌∷◌, ◌++◌, Some, None, refl, sym, ap, ◌∙◌, subst}
-use Rattle.txn_model.proofs.Words.{Option, MatchBool, MatchOption, is_none, is_some, find, option_or, Limits, TxnId, Status, Decision, Commit, Abort, CoreEntry, CoordEntry, Request, Refusal, nowhere, when, first_of, coord_skeleton, coord_skeletons, decision_skeleton, says_decision, has_new, status_of, decision_of, closing_of, parts_of, is_open, CoordLawful, transactions, is_undriven, is_due, first_due, first_undriven, log_of, TableState, nothing, in_coord, settled, marked, rebuilt, decision_entry, decision_batch, early_refusal, late_rows, late_refusal, is_not_found, Rebuilds, RebuildsAll, MarksAll, Drives, already, closes, uses, Ends, AppendFails, Succeeds, Answers, early, late, granted, tick_target, tick_reply, all_marked, drive_by, end_of, after_tick, plain_success, or_refused, plain_answer}
+use Rattle.txn_model.proofs.Words.{Option, MatchBool, MatchOption, is_none, find, option_or, Limits, TxnId, Status, Decision, Commit, Abort, CoreEntry, CoordEntry, Request, Refusal, nowhere, coord_skeleton, coord_skeletons, decision_skeleton, says_decision, has_new, status_of, decision_of, closing_of, parts_of, is_open, CoordLawful, transactions, is_undriven, is_due, first_due, first_undriven, log_of, TableState, nothing, in_coord, settled, marked, rebuilt, decision_entry, decision_batch, early_refusal, late_refusal, Rebuilds, RebuildsAll, MarksAll, Drives, already, closes, uses, Ends, AppendFails, Succeeds, Answers, early, late, granted, tick_target, tick_reply, all_marked, drive_by, end_of, after_tick, plain_success, or_refused, plain_answer}
 use Rattle.txn_base.specs.declared.request.Request.TheVariants as request
-use Rattle.txn_base.specs.declared.reply.Refusal.TheVariants as no
 use Rattle.txn_model.proofs.Bools.{no_true, and_l, none_some, some_none}
 use Rattle.txn_model.proofs.Prefixes.{map_append, first_of-append}
 use Rattle.txn_model.proofs.Refused.{passed, status_known}

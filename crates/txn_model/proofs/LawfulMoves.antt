@@ -24,12 +24,13 @@ decision_or e (Some d) = d
 pub some_decision : (d e : Decision) → Some d ≡ Some e → d ≡ e
 some_decision d e h = ap (decision_or d) h
 
+-- what is said where a test passes
+if_says : (b : Bool) (d e : Decision) → option_or (if b then Some d else None) None ≡ Some e → (b ≡ true) × (d ≡ e)
+if_says true d e h = (refl, some_decision d e h)
+if_says false d e h = absurd (none_some h)
+
 one_marker : (x y : TxnId) (d e : Decision) → marker_of (core.Marker x d ∷ []) y ≡ Some e → (y ≡ x) × (d ≡ e)
-one_marker x y d e h = by_test (same_txn y x) refl h
-  where
-    by_test : (b : Bool) → same_txn y x ≡ b → option_or (if b then Some d else None) None ≡ Some e → (y ≡ x) × (d ≡ e)
-    by_test true t h = (txn_equal y x t, some_decision d e h)
-    by_test false t h = absurd (none_some h)
+one_marker x y d e h = let said : (same_txn y x ≡ true) × (d ≡ e) = if_says (same_txn y x) d e h in (txn_equal y x said.0, said.1)
 
 marker_entry_allowed : (a : List AckEntry) (x : TxnId) (d : Decision) → is_none (marker_of (ack_skeletons a) x) ≡ true → ack_allows a (ack_marker x d) ≡ true
 marker_entry_allowed a x Commit h = h
@@ -138,13 +139,8 @@ among_parts w x p l h =
 -- ---- The closing.
 
 closing_says : (x y : TxnId) (d e : Decision) → closing_of (coord_skeleton (closing_entry x d) ∷ []) y ≡ Some e → (y ≡ x) × (d ≡ e)
-closing_says x y d e h = by_test (same_txn y x) refl d h
-  where
-    by_test : (b : Bool) → same_txn y x ≡ b → (d : Decision) → closing_of (coord_skeleton (closing_entry x d) ∷ []) y ≡ Some e → (y ≡ x) × (d ≡ e)
-    by_test true t Commit h = (txn_equal y x t, some_decision Commit e (sym (ap (λ b. option_or (if b then Some Commit else None) None) t) ∙ h))
-    by_test true t Abort h = (txn_equal y x t, some_decision Abort e (sym (ap (λ b. option_or (if b then Some Abort else None) None) t) ∙ h))
-    by_test false t Commit h = absurd (none_some (sym (ap (λ b. option_or (if b then Some Commit else None) None) t) ∙ h))
-    by_test false t Abort h = absurd (none_some (sym (ap (λ b. option_or (if b then Some Abort else None) None) t) ∙ h))
+closing_says x y Commit e h = let said : (same_txn y x ≡ true) × (Commit ≡ e) = if_says (same_txn y x) Commit e h in (txn_equal y x said.0, said.1)
+closing_says x y Abort e h = let said : (same_txn y x ≡ true) × (Abort ≡ e) = if_says (same_txn y x) Abort e h in (txn_equal y x said.0, said.1)
 
 closing_adds_none : (c : List CoreEntry) (x y : TxnId) (d : Decision) (p : ℕ) → in_parts (c ++ coord_skeleton (closing_entry x d) ∷ []) y p ≡ true → in_parts c y p ≡ true
 closing_adds_none c x y d p h =

@@ -1,6 +1,7 @@
 -- Whatever lines are told, the table's state moves: parts are recovered, batches are added, and appends fail. What holds of
 -- each of these moves, and of moves one after another, holds from the state before the lines to the state after them.
 use Rattle.std.proofs.Common.{◌≡◌, ◌⊎◌, inl, inr, ℕ, zero, suc, ◌==◌, ◌≤◌, arith, eq-eqb, eqb-true, Bool, true, false, cond, if◌then◌else◌, List, [], ◌∷◌, ◌++◌, length, Some, None, refl, sym, ap, ◌∙◌, subst}
+use Rattle.std.proofs.lemmas.Bool.Decides.{nat_tests}
 use Rattle.txn_model.proofs.Words.{Option, MatchBool, MatchOption, is_none, is_some, filter, option_or, Limits, TxnId, Decision, Commit, Abort, CoreEntry, Request, Reply, Outcome, Why, is_sub, World, has, list_at, append_at, set_at, numbers_from, coord_skeletons, topic_skeleton, topic_skeletons, ack_skeleton, ack_skeletons, name_of, decision_of, closing_of, in_parts, parts_of, marks, marker_of, log_of, part_skeletons, no_flights, kept, TableState, Batch, nothing, in_coord, in_topic, in_sub, batch_part, world_with, flights_with, settled, fenced_by, resolved, rebuilt, is_fenced, at_moment, decision_batch, closing_batch, topic_marker, ack_marker, marker_batch, given_after, marked, early_refusal, late_refusal, success_of, Rebuilds, RebuildsAll, StaysFenced, RefusedAt, MarksAll, StopsAt, recovery_fault, recovery_memory, marker_memory, marker_fault, StopsWithin, Drives, already, closes, close_fault, stops, uses, AppendFails, Fulfils, Ends, Succeeds, Answers, early, unrecovered, unread, late, granted, no_memory, no_memory_later, tick_target, tick_reply, reads_clock, moved, end_of, after_end, after_drive, after_tick, after_success, plain_success, is_stopped, is_fault, Standing, RoseAt, Kind, too_long, blank, form, AnswersFrom, Replied, Replies}
 use Rattle.txn_base.specs.declared.core_entry.CoreEntry.TheVariants as core
 use Rattle.txn_base.specs.declared.request.Request.TheVariants as request
@@ -47,16 +48,12 @@ rebuilds_stays p t t' h = by_test (is_fenced t p) refl h
     by_test false e h = (stays_same t t' h, ap (λ u. is_fenced u p) h ∙ e)
 
 -- the coordinator's log stays where another part is recovered
-resolved_coord : (p : ℕ) (stays : Bool) (t : TableState) → 1 ≤ p → (resolved p stays t).world.coord ≡ t.world.coord
-resolved_coord p true t h = by_test (0 == p) refl
-  where
-    never : 0 ≡ p → ⊥
-    never e = omega (arith, h, e)
+not_zero : (p : ℕ) → 1 ≤ p → (0 == p) ≡ false
+not_zero p low = grind (arith, nat_tests)
 
-    by_test : (b : Bool) → (0 == p) ≡ b → (if b then t.world.coord ++ t.flights.coord else t.world.coord) ≡ t.world.coord
-    by_test true e = absurd (never (eqb-true 0 p e))
-    by_test false e = refl
-resolved_coord p false t h = refl
+resolved_coord : (p : ℕ) (stays : Bool) (t : TableState) → 1 ≤ p → (resolved p stays t).world.coord ≡ t.world.coord
+resolved_coord p true t low = ap (λ b. if b then t.world.coord ++ t.flights.coord else t.world.coord) (not_zero p low)
+resolved_coord p false t low = refl
 
 pub rebuilds_coord : (p : ℕ) (t t' : TableState) → 1 ≤ p → Rebuilds p t t' → t'.world.coord ≡ t.world.coord
 rebuilds_coord p t t' low h = by_test (is_fenced t p) h

@@ -4,7 +4,7 @@ use Rattle.txn_model.proofs.Words.{Option, option_map, position, bytes_eq, codes
 use Rattle.std.proofs.lemmas.Bool.{ltb-true}
 use Rattle.std.proofs.lemmas.Slice.Eq.{bytes_eq-Decides}
 use Rattle.std.proofs.lemmas.List.Quantifiers.{position-Some}
-use Rattle.txn_model.proofs.Bools.{and_l, and_r}
+use Rattle.txn_model.proofs.Bools.{and_l, and_r, none_some}
 use Rattle.txn_model.proofs.LawfulSteps.{part_or}
 
 same_bytes : (xs ys : List ℕ) → bytes_eq xs ys ≡ true → xs ≡ ys
@@ -55,9 +55,6 @@ pub record Known (names : List (List ℕ)) (name : List ℕ) (p : ℕ) : Type 0 
 
 known_by : (names : List (List ℕ)) (name : List ℕ) (o : Option ℕ) (p : ℕ) → position (bytes_eq name) names ≡ o → option_map suc o ≡ Some p → Known names name p
 known_by names name None p e h = absurd (none_some h)
-  where
-    none_some : {p : ℕ} → None ≡ Some p → ⊥
-    none_some h = cc
 known_by names name (Some i) p e h =
     let is : suc i ≡ p = ap (part_or 0) h in
     let at = position-Some (bytes_eq name) names i [] e in

@@ -1,11 +1,12 @@
 -- What stays of a list that is made longer.
-use Rattle.std.proofs.Common.{◌≡◌, inl, inr, ℕ, suc, ◌≤◌, arith, Bool, true, false, ◌&&◌, if◌then◌else◌, List, [], ◌∷◌, ◌++◌, Some, None, refl, sym, ap, ◌∙◌, subst, append_assoc}
-use Rattle.txn_model.proofs.Words.{Option, map, is_none, option_or, list_any, TxnId, Decision, Commit, Abort, Message, CoreEntry, TopicEntry, AckEntry, first_of, all_follow, topic_skeleton, ack_skeleton, topic_skeletons, ack_skeletons, marks, marker_of, is_undecided, limit_from, limit_of, shown, visible_from, visible_of, message_at, covers, is_commit, counts, is_acked}
-use mathlib.Core.List.{IsPrefix}
-use Rattle.txn_base.specs.declared.core_entry.CoreEntry.TheVariants as core
-use Rattle.txn_base.specs.declared.entry.TopicEntry.TheVariants as topic
+use Rattle.std.proofs.Common.{◌≡◌, inl, inr, ℕ, Bool, true, ◌&&◌, List, [], ◌∷◌, ◌++◌, Some, None, refl, ap, ◌∙◌, append_assoc}
+use Rattle.txn_model.proofs.Words.{option_or, list_any, Option, map, TxnId, Decision, Commit, Abort, AckEntry, first_of, all_follow, ack_skeleton, ack_skeletons, marks, marker_of, covers, is_commit, counts, is_acked}
 use Rattle.txn_base.specs.declared.entry.AckEntry.TheVariants as ack
 use Rattle.txn_model.proofs.Bools.{no_true, and_l, and_r, and_both, and_assoc, or_cases, or_l, or_r}
+
+pub or_none : {V : Type 0} (o : Option V) → option_or o None ≡ o
+or_none None = refl
+or_none (Some v) = refl
 
 option_or-assoc : {V : Type 0} (a b c : Option V) → option_or a (option_or b c) ≡ option_or (option_or a b) c
 option_or-assoc None b c = refl
@@ -33,74 +34,6 @@ all_follow-append allows before [] ys = ap (λ l. all_follow allows l ys) (appen
 all_follow-append allows before (e ∷ xs) ys =
     ap (λ b. allows before e && b) (all_follow-append allows (before ++ e ∷ []) xs ys ∙ ap (λ l. all_follow allows (before ++ e ∷ []) xs && all_follow allows l ys) (append_assoc before (e ∷ []) xs))
     ∙ and_assoc (allows before e) (all_follow allows (before ++ e ∷ []) xs) (all_follow allows (before ++ e ∷ xs) ys)
-
--- ---- Visible messages.
-
-cons_prefix : (m : Message) (xs ys : List Message) → IsPrefix xs ys → IsPrefix (m ∷ xs) (m ∷ ys)
-cons_prefix m xs ys p = (p.0, ap (λ l. m ∷ l) p.1)
-
-shown_longer : (o o' : Option Decision) (m : Message) (xs ys : List Message) → ((d : Decision) → o ≡ Some d → o' ≡ Some d) → IsPrefix xs ys → IsPrefix (shown o m xs) (shown o' m ys)
-shown_longer None o' m xs ys stays p = (shown o' m ys, refl)
-shown_longer (Some Commit) o' m xs ys stays p = subst (λ q. IsPrefix (m ∷ xs) (shown q m ys)) (sym (stays Commit refl)) (cons_prefix m xs ys p)
-shown_longer (Some Abort) o' m xs ys stays p = subst (λ q. IsPrefix xs (shown q m ys)) (sym (stays Abort refl)) p
-
-longer : (all more : List CoreEntry) (k : ℕ) (es rest : List TopicEntry) → IsPrefix (visible_from all k es) (visible_from (all ++ more) k (es ++ rest))
-longer all more k [] rest = (visible_from (all ++ more) k rest, refl)
-longer all more k (topic.Plain body ∷ es) rest = cons_prefix (message_at k body.bytes) (visible_from all (suc k) es) (visible_from (all ++ more) (suc k) (es ++ rest)) (longer all more (suc k) es rest)
-longer all more k (topic.Opened x body ∷ es) rest =
-    shown_longer (marker_of all x) (marker_of (all ++ more) x) (message_at k body.bytes) (visible_from all (suc k) es) (visible_from (all ++ more) (suc k) (es ++ rest))
-    (λ d h. first_stays (marks x) all more d h) (longer all more (suc k) es rest)
-longer all more k (topic.Commit x ∷ es) rest = longer all more (suc k) es rest
-longer all more k (topic.Abort x ∷ es) rest = longer all more (suc k) es rest
-
--- what is visible begins what is visible later
-pub visible_longer : (es more : List TopicEntry) → IsPrefix (visible_of es) (visible_of (es ++ more))
-visible_longer es more =
-    subst (λ all. IsPrefix (visible_of es) (visible_from all 0 (es ++ more))) (sym (map_append topic_skeleton es more)) (longer (topic_skeletons es) (topic_skeletons more) 0 es more)
-
--- ---- The limit.
-
-pick_above : (b : Bool) (k m : ℕ) → k ≤ m → k ≤ (if b then k else m)
-pick_above true k m h = omega arith
-pick_above false k m h = h
-
-pub limit_above : (all : List CoreEntry) (k : ℕ) (es : List CoreEntry) → k ≤ limit_from all k es
-limit_above all k [] = omega arith
-limit_above all k (e ∷ es) =
-    let h : suc k ≤ limit_from all (suc k) es = limit_above all (suc k) es in pick_above (is_undecided all e) k (limit_from all (suc k) es) (omega (arith, h))
-
-none_before : (o o' : Option Decision) → ((d : Decision) → o ≡ Some d → o' ≡ Some d) → is_none o' ≡ true → is_none o ≡ true
-none_before None o' stays h = refl
-none_before (Some d) o' stays h = absurd (no_true (ap is_none (sym (stays d refl)) ∙ h))
-
--- what has no marker later has none before
-undecided_before : (all more : List CoreEntry) (e : CoreEntry) → is_undecided (all ++ more) e ≡ true → is_undecided all e ≡ true
-undecided_before all more (core.Inside x) h = none_before (marker_of all x) (marker_of (all ++ more) x) (λ d k. first_stays (marks x) all more d k) h
-undecided_before all more core.Plain h = h
-undecided_before all more (core.Marker x d) h = h
-undecided_before all more (core.New x) h = h
-undecided_before all more (core.AddPart x p) h = h
-undecided_before all more (core.Committing x) h = h
-undecided_before all more (core.Committed x) h = h
-undecided_before all more (core.Aborting x) h = h
-undecided_before all more (core.Aborted x) h = h
-
-limit_step : (b b' : Bool) (k m m' : ℕ) → (b' ≡ true → b ≡ true) → m ≤ m' → k ≤ m' → (if b then k else m) ≤ (if b' then k else m')
-limit_step true b' k m m' before h j = pick_above b' k m' j
-limit_step false true k m m' before h j = absurd (no_true (before refl))
-limit_step false false k m m' before h j = h
-
-limit_longer_from : (all more : List CoreEntry) (k : ℕ) (es rest : List CoreEntry) → limit_from all k es ≤ limit_from (all ++ more) k (es ++ rest)
-limit_longer_from all more k [] rest = limit_above (all ++ more) k rest
-limit_longer_from all more k (e ∷ es) rest =
-    let h : suc k ≤ limit_from (all ++ more) (suc k) (es ++ rest) = limit_above (all ++ more) (suc k) (es ++ rest) in
-    limit_step (is_undecided all e) (is_undecided (all ++ more) e) k (limit_from all (suc k) es) (limit_from (all ++ more) (suc k) (es ++ rest))
-    (undecided_before all more e) (limit_longer_from all more (suc k) es rest) (omega (arith, h))
-
--- the limit never falls
-pub limit_longer : (es more : List TopicEntry) → limit_of es ≤ limit_of (es ++ more)
-limit_longer es more =
-    subst (λ all. limit_of es ≤ limit_from all 0 all) (sym (map_append topic_skeleton es more)) (limit_longer_from (topic_skeletons es) (topic_skeletons more) 0 (topic_skeletons es) (topic_skeletons more))
 
 -- ---- Acknowledged places.
 

@@ -3,8 +3,8 @@ use Rattle.std.proofs.Common.{◌≡◌, ℕ, eq-eqb, eqb-true, ◌==◌, Bool, 
 use Rattle.std.proofs.lemmas.List.Folds.{list_any-append}
 use Rattle.txn_model.proofs.Words.{Option, unwrap_or, option_or, TxnId, Decision, Commit, Abort, Status, Open, CoreEntry, last_of, all_follow, same_txn, decision_skeleton, closing_skeleton, deciding, closed, is_new, says_status, says_decision, says_closing, has_new, status_of, decision_of, closing_of, is_open, is_deciding, coord_allows, CoordLawful}
 use Rattle.txn_base.specs.declared.core_entry.CoreEntry.TheVariants as core
-use Rattle.txn_model.proofs.Bools.{no_true, and_l, and_r, and_both, or_l}
-use Rattle.txn_model.proofs.Prefixes.{first_of-append, all_follow-append}
+use Rattle.txn_model.proofs.Bools.{no_true, and_l, and_r, and_both, or_l, none_some}
+use Rattle.txn_model.proofs.Prefixes.{or_none, first_of-append, all_follow-append}
 
 -- the status that is said last, by how x is closed and decided
 abbrev pub last_by : Option Decision → Option Decision → Option Status
@@ -46,10 +46,6 @@ txn_equal x y h =
     make : ℕ → ℕ → TxnId
     make m l = record { most = m; least = l }
 
-or_none : {V : Type 0} (o : Option V) → option_or o None ≡ o
-or_none None = refl
-or_none (Some v) = refl
-
 pub open_means : (n : Bool) (k d : Option Decision) → is_open (status_by n (last_by k d)) ≡ true → (n ≡ true) × (k ≡ None) × (d ≡ None)
 open_means false k d h = absurd (no_true h)
 open_means true (Some Commit) d h = absurd (no_true h)
@@ -89,9 +85,6 @@ decide_step n l k d w true a may =
     subst (λ u. Agree (n || false) (Some (deciding w)) (option_or u None) (option_or d (Some w))) (sym m.1)
     (subst (λ u. Agree (n || false) (Some (deciding w)) None (option_or u (Some w))) (sym m.2)
     (record { said = refl; when_closed = λ v h. absurd (none_some h); when_decided = λ v h. or_l n false m.0 }))
-  where
-    none_some : {v : Decision} → None ≡ Some v → ⊥
-    none_some h = cc
 
 close_step : (n : Bool) (l : Option Status) (k d : Option Decision) (w : Decision) (b : Bool) → Agree n l k d → (b ≡ true → is_deciding w (status_by n l) ≡ true)
     → Agree (n || false) (option_or (if b then Some (closed w) else None) l) (option_or k (if b then Some w else None)) (option_or d None)
@@ -158,9 +151,6 @@ agrees_along n c (e ∷ es) x a h =
 -- in a lawful log all four agree
 pub lawful_agrees : (n : ℕ) (c : List CoreEntry) (x : TxnId) → CoordLawful n c → Agrees c x
 lawful_agrees n c x h = agrees_along n [] c x (record { said = refl; when_closed = λ d k. absurd (none_some k); when_decided = λ d k. absurd (none_some k) }) h
-  where
-    none_some : {v : Decision} → None ≡ Some v → ⊥
-    none_some h = cc
 
 -- the entry that decides is allowed where the transaction is open
 decides_open : (n : ℕ) (c : List CoreEntry) (x : TxnId) (d : Decision) → coord_allows n c (decision_skeleton x d) ≡ is_open (status_of c x)

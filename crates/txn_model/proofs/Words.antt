@@ -34,7 +34,7 @@ pub use Rattle.txn_model.specs.Coord.{coord_allows, decision_of, closing_of, in_
 pub use Rattle.txn_model.specs.Deadlines.{txn, transactions, is_undriven, is_due, first_due, first_undriven, low_of, left_of}
 pub use Rattle.txn_model.specs.Drive.{StopsAt, recovery_fault, recovery_memory, marker_memory, marker_fault, StopsWithin, Drives, already, closes, close_fault, stops, Rebuilds, RebuildsAll, MarksAll, StaysFenced, RefusedAt, ended}
 pub use Rattle.txn_model.specs.EarlyRows.{early_rows, early_refusal, unknown_name, wrong_kind}
-pub use Rattle.txn_model.specs.Entries.{message_entry, message_at}
+pub use Rattle.txn_model.specs.Entries.{message_entry, message_at, message_of}
 pub use Rattle.txn_model.specs.Full.{full_transactions, full_held, full_log}
 pub use Rattle.txn_model.specs.LateRows.{late_rows, late_refusal, forbids, has_ended, is_not_found, acks_in, forbidding_status, unregistered, unread_in, acked_in, conflict_in}
 pub use Rattle.txn_model.specs.Names.{name_of, NamesLawful, part_of, has_name, name_allows}
@@ -46,7 +46,7 @@ pub use Rattle.txn_model.specs.Shape.{is_topic, topic_parts, sub_parts, Shaped, 
 pub use Rattle.txn_model.specs.Skeletons.{coord_skeleton, topic_skeleton, topic_skeletons, ack_skeleton, ack_skeletons, coord_skeletons, same_txn}
 pub use Rattle.txn_model.specs.Successes.{success_of, acks_batch}
 pub use Rattle.txn_model.specs.Table.{nothing, in_coord, in_topic, in_sub, world_with, TableState, settled, marked, decision_batch, Batch, flights_with, decision_entry, resolved, rebuilt, is_fenced, at_moment, closing_entry, closing_batch, topic_marker, ack_marker, marker_batch, batch_part, fenced_by, flights_without, given_after}
-pub use Rattle.txn_model.specs.Topic.{part_allows, TopicLawful, marker_of, is_undecided, limit_from, limit_of, shows, shown_from, visible_from, visible_of, marks, shown, shown_where, read_slice}
+pub use Rattle.txn_model.specs.Topic.{part_allows, TopicLawful, marker_of, is_undecided, limit_from, limit_of, shows, shown_from, visible_of, marks, shown_where, read_slice}
 pub use Rattle.txn_model.specs.VisiblePlaces.{shown_place, visible_places_from, visible_places}
 pub use Rattle.txn_model.specs.Words.{all_follow, list_at, has, first_of, when, append_at, set_at, IsLawfulBy, first_bad_from, first_bad, IsFirstBad, below, with_list, nowhere, numbers_from, that, first_said, last_of}
 pub use Rattle.txn_model.specs.World.{log_of, part_skeletons, has_inside, Lawful, no_flights, Flights, followed, kept, Extends, is_inside, RegisteredFirst, MarkerDecided, ClosedComplete}

@@ -1,12 +1,12 @@
 -- Worked examples, computed.
 use Rattle.std.specs.Prelude.{◌≡◌, ℕ, List, [], ◌∷◌, Some, None, codes, refl}
 use Rattle.txn_base.specs.Limits.{standard}
-use Rattle.txn_model.proofs.Words.{Commit, Abort, Committed, Aborted, Request, message_at, txn, ended, TableState, plain_replies, fresh}
+use Rattle.txn_model.proofs.Words.{Commit, Abort, Committed, Aborted, Request, message_at, txn, ended, TableState, moved, plain_answer, plain_replies, fresh}
 use Rattle.txn_base.specs.declared.request.Request.TheVariants as request
 use Rattle.txn_base.specs.declared.reply.Reply.TheVariants as reply
 use Rattle.txn_base.specs.declared.reply.Refusal.TheVariants as no
 
-abbrev orders : List ℕ
+abbrev pub orders : List ℕ
 orders = codes "orders"
 
 abbrev a : List ℕ
@@ -21,9 +21,16 @@ c = codes "c"
 abbrev d : List ℕ
 d = codes "d"
 
-abbrev at_0 : List Request → List (ℕ × Request)
+abbrev pub billing : List ℕ
+billing = codes "orders/billing"
+
+abbrev pub at_0 : List Request → List (ℕ × Request)
 at_0 [] = []
 at_0 (r ∷ rs) = (0, r) ∷ at_0 rs
+
+abbrev pub after : TableState → List Request → TableState
+after t [] = t
+after t (r ∷ rs) = after (plain_answer standard (moved r 0 t) r).1 rs
 
 abbrev one_topic : TableState
 one_topic = fresh (orders ∷ [])

@@ -1,20 +1,11 @@
 -- Worked examples of acknowledgements and ticks, computed.
-use Rattle.std.specs.Prelude.{◌≡◌, ℕ, List, [], ◌∷◌, ◌++◌, Some, None, codes, refl}
+use Rattle.std.specs.Prelude.{◌≡◌, List, [], ◌∷◌, ◌++◌, Some, None, codes, refl}
 use Rattle.txn_base.specs.Limits.{standard}
 use Rattle.txn_model.proofs.Words.{Abort, Aborted, Request, Reply, message_at, txn, ended, TableState, plain_replies, fresh}
 use Rattle.txn_base.specs.declared.request.Request.TheVariants as request
 use Rattle.txn_base.specs.declared.reply.Reply.TheVariants as reply
 use Rattle.txn_base.specs.declared.reply.Refusal.TheVariants as no
-
-abbrev orders : List ℕ
-orders = codes "orders"
-
-abbrev billing : List ℕ
-billing = codes "orders/billing"
-
-abbrev at_0 : List Request → List (ℕ × Request)
-at_0 [] = []
-at_0 (r ∷ rs) = (0, r) ∷ at_0 rs
+use Rattle.txn_model.proofs.Worked.{orders, billing, at_0}
 
 abbrev with_sub : TableState
 with_sub = fresh (orders ∷ billing ∷ [])

@@ -1,17 +1,11 @@
 -- A commit that a fault stops at a topic, and its repeat, as the table has them.
-use Rattle.txn_model.proofs.Words.{◌≡◌, ℕ, Bool, true, false, List, [], ◌∷◌, Some, codes, refl, Commit, Committing, Committed, Request, Outcome, message_at, txn, TableState, settled, fenced_by, rebuilt, marked, marker_batch, closing_batch, decision_batch, ended, closes, stops, marker_fault, Answers, granted, moved, plain_answer, fresh}
+use Rattle.txn_model.proofs.Words.{◌≡◌, ℕ, Bool, true, false, [], ◌∷◌, Some, codes, refl, Commit, Committing, Committed, Outcome, message_at, txn, TableState, settled, fenced_by, rebuilt, marked, marker_batch, closing_batch, decision_batch, ended, closes, stops, marker_fault, Answers, granted, plain_answer, fresh}
 use Rattle.std.proofs.Common.{inl}
 use Rattle.txn_base.specs.Limits.{standard}
 use Rattle.txn_base.specs.declared.request.Request.TheVariants as request
 use Rattle.txn_base.specs.declared.reply.Reply.TheVariants as reply
 use Rattle.txn_base.specs.declared.reply.Why.TheVariants as why
-
-abbrev orders : List ℕ
-orders = codes "orders"
-
-abbrev after : TableState → List Request → TableState
-after t [] = t
-after t (r ∷ rs) = after (plain_answer standard (moved r 0 t) r).1 rs
+use Rattle.txn_model.proofs.Worked.{orders, after}
 
 -- a message in a transaction
 abbrev published : TableState

@@ -1,22 +1,12 @@
 -- Lists that are lawful and lists that aren't, computed.
-use Rattle.std.specs.Prelude.{◌≡◌, ℕ, false, List, [], ◌∷◌, Some, None, codes, refl}
-use Rattle.txn_base.specs.Limits.{standard}
+use Rattle.std.specs.Prelude.{◌≡◌, false, [], ◌∷◌, Some, None, codes, refl}
 use Rattle.txn_base.specs.declared.entry.CoordEntry.TheVariants as coord
 use Rattle.txn_base.specs.declared.entry.TopicEntry.TheVariants as topic
 use Rattle.txn_base.specs.declared.entry.AckEntry.TheVariants as ack
-use Rattle.txn_model.proofs.Words.{Request, all_follow, list_at, coord_skeletons, topic_skeletons, NamesLawful, name_allows, coord_allows, CoordLawful, parts_of, part_allows, TopicLawful, ack_allows, AckLawful, holder_of, txn, low_of, log_of, TableState, plain_answer, fresh, moved}
+use Rattle.txn_model.proofs.Words.{all_follow, list_at, coord_skeletons, topic_skeletons, NamesLawful, name_allows, coord_allows, CoordLawful, parts_of, part_allows, TopicLawful, ack_allows, AckLawful, holder_of, txn, low_of, log_of, TableState, fresh}
 use Rattle.txn_base.specs.declared.request.Request.TheVariants as request
 use Rattle.txn_base.specs.Bytes.{only_bytes}
-
-abbrev after : TableState → List Request → TableState
-after t [] = t
-after t (r ∷ rs) = after (plain_answer standard (moved r 0 t) r).1 rs
-
-abbrev orders : List ℕ
-orders = codes "orders"
-
-abbrev billing : List ℕ
-billing = codes "orders/billing"
+use Rattle.txn_model.proofs.Worked.{orders, billing, after}
 
 -- messages and acknowledgements of two transactions, one committed and one aborted, and plain ones
 abbrev busy : TableState

@@ -1,13 +1,14 @@
 -- Rows of the table at their bounds, computed.
-use Rattle.std.specs.Prelude.{◌≡◌, ℕ, List, [], ◌∷◌, Some, None, codes, refl}
+use Rattle.std.specs.Prelude.{◌≡◌, List, [], ◌∷◌, Some, None, codes, refl}
 use Rattle.txn_base.specs.Limits.{standard}
-use Rattle.txn_model.proofs.Words.{Limits, CoreEntry, AckEntry, These, UpTo, Request, Transactions, Log, Held, first_bad, coord_allows, part_allows, txn, unread_place, acked_place, conflict, new_places, newly_held, acks_added, full_transactions, full_held, full_log, plain_replies, fresh}
+use Rattle.txn_model.proofs.Words.{Limits, CoreEntry, AckEntry, These, UpTo, Transactions, Log, Held, first_bad, coord_allows, part_allows, txn, unread_place, acked_place, conflict, new_places, newly_held, acks_added, full_transactions, full_held, full_log, plain_replies, fresh}
 use Rattle.txn_base.specs.declared.core_entry.CoreEntry.TheVariants as core
 use Rattle.txn_base.specs.declared.entry.AckEntry.TheVariants as ack
 use Rattle.txn_base.specs.declared.request.Request.TheVariants as request
 use Rattle.txn_base.specs.declared.reply.Reply.TheVariants as reply
 use Rattle.txn_base.specs.declared.reply.Refusal.TheVariants as no
 use Rattle.txn_model.specs.Cut.{lines_of}
+use Rattle.txn_model.proofs.Worked.{orders, billing, at_0}
 
 -- ---- Acknowledgements.
 
@@ -69,16 +70,6 @@ one_is_held_already = refl
 
 pub a_cumulative_hold_holds_none_one_by_one : newly_held (Some (txn 0)) (UpTo 3) (0 ∷ 1 ∷ []) ≡ 0
 a_cumulative_hold_holds_none_one_by_one = refl
-
-abbrev orders : List ℕ
-orders = codes "orders"
-
-abbrev billing : List ℕ
-billing = codes "orders/billing"
-
-abbrev at_0 : List Request → List (ℕ × Request)
-at_0 [] = []
-at_0 (r ∷ rs) = (0, r) ∷ at_0 rs
 
 abbrev wide : Limits
 wide = record few { log = 4294967296; held = 65536 }

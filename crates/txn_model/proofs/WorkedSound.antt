@@ -1,5 +1,5 @@
 -- The file that one plain message leaves, and the world for which the files then stand.
-use Rattle.std.proofs.Common.{◌≡◌, ℕ, ◌==◌, ◌&&◌, ◌<◌, arith, rules, eqb-true, Bool, true, false, if◌then◌else◌, List, [], ◌∷◌, Some, None, refl, sym, subst}
+use Rattle.std.proofs.Common.{◌≡◌, ℕ, ◌==◌, ◌&&◌, ◌<◌, arith, rules, eqb-true, Bool, true, false, if◌then◌else◌, List, [], ◌∷◌, Some, refl, sym, subst}
 use Rattle.txn_model.proofs.Words.{codes, TxnId, Decision, TopicEntry, World, list_at, topic_skeletons, TopicLawful, marker_of, Lawful, has_inside}
 use Rattle.std.proofs.lemmas.List.Elements.{All-nil, All-cons}
 use Rattle.txn_base.specs.declared.entry.TopicEntry.TheVariants as topic
@@ -7,7 +7,7 @@ use Rattle.txn_base.specs.Bytes.{only_bytes}
 use Rattle.txn_base.specs.Disk.{Files, same_file}
 use Rattle.txn_base.specs.Frames.{Batch, IsRecord, IsBatch, Stands}
 use Rattle.txn_model.specs.Sound.{part_file, ledger_file, StandsForEntries, IsBareRecord, StandsFor, Sound}
-use Rattle.txn_model.proofs.Bools.{no_true, and_l}
+use Rattle.txn_model.proofs.Bools.{no_true, and_l, none_some}
 
 abbrev names : List (List ℕ)
 names = codes "orders" ∷ []
@@ -85,9 +85,6 @@ plain_either false = refl
 no_inside : (b : Bool) (x : TxnId) → has_inside (topic_skeletons (if b then one_message else [])) x ≡ true → ⊥
 no_inside true x h = no_true h
 no_inside false x h = no_true h
-
-none_some : {d : Decision} → None ≡ Some d → ⊥
-none_some h = cc
 
 no_marker : (b : Bool) (x : TxnId) (d : Decision) → marker_of (topic_skeletons (if b then one_message else [])) x ≡ Some d → ⊥
 no_marker true x d h = none_some h

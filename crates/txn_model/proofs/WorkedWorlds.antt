@@ -1,5 +1,5 @@
 -- The rules across lists, growth, what a stop keeps and the order of refusals, computed on small worlds.
-use Rattle.std.specs.Prelude.{◌≡◌, ◌==◌, ℕ, Bool, true, false, if◌then◌else◌, List, [], ◌∷◌, Some, None, codes, refl}
+use Rattle.std.specs.Prelude.{◌≡◌, ◌==◌, ℕ, Bool, true, false, if◌then◌else◌, List, [], ◌∷◌, Some, codes, refl}
 use mathlib.Core.List.{IsPrefix}
 use Rattle.txn_base.specs.Limits.{standard}
 use Rattle.txn_model.proofs.Words.{Limits, Commit, Abort, Committing, CoreEntry, TopicEntry, AckEntry, Transactions, Log, World, part_of, name_of, txn, RegisteredFirst, MarkerDecided, ClosedComplete, Extends, Flights, kept, part_skeletons, early_refusal, late_refusal, table_over, names_with}
@@ -11,12 +11,7 @@ use Rattle.txn_base.specs.declared.request.Request.TheVariants as request
 use Rattle.txn_base.specs.declared.reply.Refusal.TheVariants as no
 use Rattle.txn_base.specs.Bytes.{only_bytes}
 use Rattle.txn_model.proofs.Bools.{no_true, none_some}
-
-abbrev orders : List ℕ
-orders = codes "orders"
-
-abbrev billing : List ℕ
-billing = codes "orders/billing"
+use Rattle.txn_model.proofs.Worked.{orders, billing}
 
 -- a message and a hold of a transaction whose commit is decided
 abbrev world : World

@@ -4,7 +4,7 @@ use Rattle.txn_base.specs.declared.limits.Limits.{Limits}
 use Rattle.txn_base.specs.declared.messages.Message.{Message}
 use Rattle.txn_base.specs.declared.txn.TxnId.{TxnId}
 use Rattle.txn_base.specs.declared.txn.Decision.{Decision}
-use Rattle.txn_base.specs.declared.txn.Decision.TheVariants.{Commit, Abort}
+use Rattle.txn_base.specs.declared.txn.Decision.TheVariants.{Commit}
 use Rattle.txn_base.specs.declared.core_entry.CoreEntry.{CoreEntry}
 use Rattle.txn_base.specs.declared.core_entry.CoreEntry.TheVariants as core
 use Rattle.txn_base.specs.declared.entry.TopicEntry.{TopicEntry}
@@ -46,24 +46,10 @@ limit_from all k (e ∷ es) = if is_undecided all e then k else limit_from all (
 abbrev pub limit_of : List TopicEntry → ℕ
 limit_of es = limit_from (topic_skeletons es) 0 (topic_skeletons es)
 
--- A message by the marker of its transaction: shown where it is a commit, passed over where it is an abort; and
--- where there is none, the limit stands here, and neither it nor the rest is shown.
-abbrev pub shown : Option Decision → Message → List Message → List Message
-shown (Some Commit) m rest = m ∷ rest
-shown (Some Abort) m rest = rest
-shown None m rest = []
-
 -- The message, where its transaction has a commit marker.
 abbrev pub shown_where : Option Decision → Message → Option Message
 shown_where (Some Commit) m = Some m
 shown_where _ m = None
-
--- By its kind, where all are the whole list, an entry's message before the rest: shown where it is plain, by the marker
--- where it is of a transaction, and left out where the entry is a marker.
-abbrev pub shown_by : List CoreEntry → CoreEntry → Message → List Message → List Message
-shown_by all core.Plain m rest = m ∷ rest
-shown_by all (core.Inside x) m rest = shown (marker_of all x) m rest
-shown_by all _ m rest = rest
 
 -- By its kind, where all are the whole list, the message that an entry shows if no undecided one stands before it.
 abbrev pub shows_by : List CoreEntry → CoreEntry → Message → Option Message
@@ -79,15 +65,10 @@ abbrev pub shown_from : List CoreEntry → ℕ → List TopicEntry → List Mess
 shown_from all k [] = []
 shown_from all k (e ∷ es) = option_to_list (shows all k e) ++ shown_from all (suc k) es
 
--- From place k on, where all are the whole list, the visible messages.
-abbrev pub visible_from : List CoreEntry → ℕ → List TopicEntry → List Message
-visible_from all k [] = []
-visible_from all k (e ∷ es) = shown_by all (topic_skeleton e) (message_of k e) (visible_from all (suc k) es)
-
 -- The visible messages of a topic's list, in order: of the places below the limit, the plain messages and those of
 -- transactions with a commit marker.
 abbrev pub visible_of : List TopicEntry → List Message
-visible_of es = visible_from (topic_skeletons es) 0 es
+visible_of es = shown_from (topic_skeletons es) 0 (take (limit_of es) es)
 
 -- Where there is room for `bytes`, of which `spent` are spent, the longest front of these messages whose bodies fit.
 abbrev pub fitting : ℕ → ℕ → List Message → List Message

@@ -1,5 +1,5 @@
 //! Laws of single lists. Each function does nothing, and its contract is the law.
-ghost use Rattle.std.specs.Prelude.{◌≡◌, ◌≤◌, ◌++◌, ◌∷◌, ℕ, List, take, Some, None};
+ghost use Rattle.std.specs.Prelude.{◌≡◌, ◌≤◌, ◌++◌, ◌∷◌, ℕ, List, Some, None};
 ghost use mathlib.Core.List.{IsPrefix};
 ghost use Rattle.txn_base.specs.declared.txn.TxnId.{TxnId};
 ghost use Rattle.txn_base.specs.declared.txn.Decision.{Decision};
@@ -7,10 +7,9 @@ ghost use Rattle.txn_base.specs.declared.core_entry.CoreEntry.{CoreEntry};
 ghost use Rattle.txn_base.specs.declared.entry.TopicEntry.{TopicEntry};
 ghost use Rattle.txn_base.specs.declared.entry.AckEntry.{AckEntry};
 ghost use Rattle.txn_model.specs.Words.{first_bad, IsFirstBad};
-ghost use Rattle.txn_model.specs.Skeletons.{topic_skeletons};
 ghost use Rattle.txn_model.specs.Names.{name_allows};
 ghost use Rattle.txn_model.specs.Coord.{CoordLawful, coord_allows, decision_skeleton, decision_of};
-ghost use Rattle.txn_model.specs.Topic.{part_allows, visible_of, limit_of, shown_from};
+ghost use Rattle.txn_model.specs.Topic.{part_allows, visible_of, limit_of};
 ghost use Rattle.txn_model.specs.Ack.{ack_allows, IsAcked};
 
 /// What a reader was given never lapses, whatever entries follow.
@@ -35,10 +34,4 @@ pub fn first_bad_is_first()
     ensures coord { (n : ℕ) (c : List CoreEntry) → IsFirstBad (coord_allows n) c (first_bad (coord_allows n) c) }
     ensures part { (es : List CoreEntry) → IsFirstBad part_allows es (first_bad part_allows es) }
     ensures sub { (a : List AckEntry) → IsFirstBad ack_allows a (first_bad ack_allows a) }
-{}
-
-/// The visible messages are, in order, those of the entries below the limit that are plain or of a transaction with a
-/// commit marker.
-pub fn visible_messages_stand_below_the_limit()
-    ensures { (es : List TopicEntry) → visible_of es ≡ shown_from (topic_skeletons es) 0 (take (limit_of es) es) }
 {}

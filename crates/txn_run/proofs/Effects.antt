@@ -1,5 +1,5 @@
 -- What a cursor reads has its cause in the log.
-use Rattle.std.proofs.Common.{◌≡◌, ℕ, suc, List, [], ◌∷◌, ◌++◌, length, All, Option, Some, None, refl, sym, ap, ◌∙◌, length-append, append_assoc, arith}
+use Rattle.std.proofs.Common.{◌≡◌, ℕ, suc, List, [], ◌∷◌, ◌++◌, length, All, Option, Some, None, refl, sym, ap, ◌∙◌, subst, length-append, append_assoc, arith}
 use Rattle.std.proofs.lemmas.List.Elements.{All-nil, All-cons}
 use Rattle.txn_base.specs.declared.core_entry.CoreEntry.{CoreEntry}
 use Rattle.txn_base.specs.declared.entry.TopicEntry.{TopicEntry}
@@ -11,7 +11,8 @@ use Rattle.txn_base.specs.declared.txn.TxnId.{TxnId}
 use Rattle.txn_model.specs.Coord.{decision_of}
 use Rattle.txn_model.specs.Entries.{message_of}
 use Rattle.txn_model.specs.Skeletons.{topic_skeleton, topic_skeletons}
-use Rattle.txn_model.specs.Topic.{marker_of, shown, visible_from, visible_of}
+use Rattle.txn_model.specs.Topic.{marker_of, visible_of}
+use Rattle.txn_model.proofs.Laws.Topics.{shown, visible_from, visible_fused}
 use Rattle.txn_run.specs.Promises.{MayShow, IsEffect}
 
 module _ (c all : List CoreEntry) (decided : (x : TxnId) → marker_of all x ≡ Some Commit → decision_of c x ≡ Some Commit) (es : List TopicEntry) where
@@ -51,4 +52,4 @@ module _ (c all : List CoreEntry) (decided : (x : TxnId) → marker_of all x ≡
   effects before (topic.Abort x ∷ rest) split k count = effects (before ++ topic.Abort x ∷ []) rest (behind before (topic.Abort x) rest split) (suc k) (one_more before (topic.Abort x) k count)
 
 pub all_effects : (c : List CoreEntry) (es : List TopicEntry) → ((x : TxnId) → marker_of (topic_skeletons es) x ≡ Some Commit → decision_of c x ≡ Some Commit) → All (IsEffect c es) (visible_of es)
-all_effects c es decided = effects c (topic_skeletons es) decided es [] es refl 0 refl
+all_effects c es decided = subst (All (IsEffect c es)) (sym (visible_fused es)) (effects c (topic_skeletons es) decided es [] es refl 0 refl)

@@ -3,9 +3,8 @@
 -- A marker stays, whatever follows.
 pub use Rattle.txn_model.proofs.LawfulGrowth.{marker_stays}
 -- The limit never falls, and what is visible begins what is visible later.
-pub use Rattle.txn_model.proofs.Prefixes.{limit_longer, visible_longer}
--- The visible messages are what the entries below the limit show; entry by entry, nothing from an undecided one on.
-pub use Rattle.txn_model.proofs.Below.{visible_below}
-pub use Rattle.txn_model.proofs.Showing.{visible_split}
+pub use Rattle.txn_model.proofs.Visible.{limit_longer, visible_longer}
+-- The visible messages in one go, entry by entry: nothing from an undecided one on, and else what it shows and the rest.
+pub use Rattle.txn_model.proofs.Visible.{shown, shown_by, visible_from, visible_split, visible_fused, visible_below}
 -- The places of the visible messages are the visible places of the skeletons.
-pub use Rattle.txn_model.proofs.Places.{places_are}
+pub use Rattle.txn_model.proofs.Visible.{places_are}
