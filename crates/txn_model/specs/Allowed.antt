@@ -1,17 +1,15 @@
 -- Batches that may be in flight over a world, and states of the table that stay lawful whatever a stop keeps.
-use Rattle.std.specs.Prelude.{◌≡◌, ℕ, true, false, if◌then◌else◌, List, [], ◌++◌, length, Some}
-use Rattle.txn_base.specs.declared.txn.TxnId.{TxnId}
-use Rattle.txn_base.specs.declared.txn.Decision.{Decision}
+use Rattle.std.specs.Prelude.{◌≡◌, ℕ, true, false, if◌then◌else◌, List, [], ◌++◌, length}
 use Rattle.txn_base.specs.declared.core_entry.CoreEntry.{CoreEntry}
 use Rattle.txn_base.specs.Names.{is_sub}
 use Rattle.txn_model.specs.declared.world.World.{World}
 use Rattle.txn_model.specs.Words.{list_at}
 use Rattle.txn_model.specs.Skeletons.{coord_skeletons, topic_skeletons, ack_skeletons}
 use Rattle.txn_model.specs.Names.{name_of}
-use Rattle.txn_model.specs.Coord.{CoordLawful, decision_of, closing_of, in_parts}
-use Rattle.txn_model.specs.Topic.{TopicLawful, marker_of}
+use Rattle.txn_model.specs.Coord.{CoordLawful}
+use Rattle.txn_model.specs.Topic.{TopicLawful}
 use Rattle.txn_model.specs.Ack.{AckLawful}
-use Rattle.txn_model.specs.World.{log_of, part_skeletons, has_inside, Lawful, Flights, no_flights}
+use Rattle.txn_model.specs.World.{log_of, part_skeletons, RegisteredFirst, MarkerDecided, MarkersStand, Lawful, Flights, no_flights}
 use Rattle.txn_model.specs.Table.{TableState, Batch, nothing, in_coord, in_topic, in_sub, flights_with, is_fenced}
 use Rattle.txn_model.specs.Shape.{Shaped}
 
@@ -23,16 +21,15 @@ log_with w f = log_of w ++ coord_skeletons f.coord
 abbrev pub flight_skeletons : World → Flights → ℕ → List CoreEntry
 flight_skeletons w f p = if is_sub (name_of w.names p) then ack_skeletons (f.subs p) else topic_skeletons (f.topics p)
 
--- Over the world w these flights are allowed. Each list is lawful with its flight; a message or hold of x in flight at p
--- has p among the parts of x; a marker d of x in flight has the logged decision d of x; and where a flight closes x by d,
--- each part of x has the marker d.
+-- Over the world w these flights are allowed. Each list is lawful with its flight, and of what is in flight the three rules
+-- across lists hold: registered first, a marker follows its decision, and markers stand before a closing.
 pub record AllowedFlights (w : World) (f : Flights) : Type 0 where
   pub coord : CoordLawful (length w.names) (log_with w f)
   pub topics : (p : ℕ) → TopicLawful (list_at w.topics p ++ f.topics p)
   pub subs : (p : ℕ) → AckLawful (list_at w.subs p ++ f.subs p)
-  pub registered : (p : ℕ) (x : TxnId) → has_inside (flight_skeletons w f p) x ≡ true → in_parts (log_of w) x p ≡ true
-  pub decided : (p : ℕ) (x : TxnId) (d : Decision) → marker_of (flight_skeletons w f p) x ≡ Some d → decision_of (log_of w) x ≡ Some d
-  pub closed : (x : TxnId) (d : Decision) (p : ℕ) → closing_of (coord_skeletons f.coord) x ≡ Some d → in_parts (log_with w f) x p ≡ true → marker_of (part_skeletons w p) x ≡ Some d
+  pub registered : RegisteredFirst (log_of w) (flight_skeletons w f)
+  pub decided : MarkerDecided (log_of w) (flight_skeletons w f)
+  pub closed : MarkersStand (coord_skeletons f.coord) (log_with w f) (part_skeletons w)
 
 -- Over the world w the batch is allowed: alone in flight, it would be.
 abbrev pub IsAllowed : Batch → World → Type 0

@@ -44,9 +44,13 @@ RegisteredFirst c parts = (p : ℕ) (x : TxnId) → has_inside (parts p) x ≡ t
 abbrev pub MarkerDecided : List CoreEntry → (ℕ → List CoreEntry) → Type 0
 MarkerDecided c parts = (p : ℕ) (x : TxnId) (d : Decision) → marker_of (parts p) x ≡ Some d → decision_of c x ≡ Some d
 
+-- Markers stand before the closings: where one of these closes x by d, each part of x has the marker d of x.
+abbrev pub MarkersStand : List CoreEntry → List CoreEntry → (ℕ → List CoreEntry) → Type 0
+MarkersStand closings c parts = (x : TxnId) (d : Decision) (p : ℕ) → closing_of closings x ≡ Some d → in_parts c x p ≡ true → marker_of (parts p) x ≡ Some d
+
 -- Closed after all markers: where x is closed by d, each of its parts has the marker d of x.
 abbrev pub ClosedComplete : List CoreEntry → (ℕ → List CoreEntry) → Type 0
-ClosedComplete c parts = (x : TxnId) (d : Decision) (p : ℕ) → closing_of c x ≡ Some d → in_parts c x p ≡ true → marker_of (parts p) x ≡ Some d
+ClosedComplete c parts = MarkersStand c c parts
 
 -- A world is lawful where each of its lists is, and the three rules across lists hold.
 pub record Lawful (w : World) : Type 0 where
