@@ -1,5 +1,6 @@
 //! The request of each form.
 ghost use Rattle.serde_json.specs.View.{view};
+ghost use Rattle.std.specs.Prelude.{option_map};
 ghost use Rattle.txn_wire.specs.Lines.{Gives};
 ghost use Rattle.txn_wire.specs.Forms.{new_of, add_of, publish_of, ack_of, ack_upto_of, only_txn_of, read_of, receive_of, redeliver_of, bare_of};
 
@@ -80,7 +81,7 @@ pub(crate) fn ack_upto_request(alloc: Global, value: &Value) -> Result<Request, 
 }
 
 #[tactic(auto, unfolding(crate::specs::Forms::only_txn_of))]
-pub(crate) fn only_txn(value: &Value) -> Result<TxnId, WireError>
+fn only_txn(value: &Value) -> Result<TxnId, WireError>
     ensures { Gives (λ t. t) result (only_txn_of (view value.now)) }
 {
     let txn = id_at(value, "txn")?;
@@ -88,6 +89,27 @@ pub(crate) fn only_txn(value: &Value) -> Result<TxnId, WireError>
         return Err(WireError::BadLine);
     }
     Ok(txn)
+}
+
+pub(crate) fn commit_request(value: &Value) -> Result<Request, WireError>
+    ensures { Gives (λ r. r) result (option_map (λ t. Request.Commit t) (only_txn_of (view value.now))) }
+{
+    let txn = only_txn(value)?;
+    Ok(Request::Commit { txn })
+}
+
+pub(crate) fn abort_request(value: &Value) -> Result<Request, WireError>
+    ensures { Gives (λ r. r) result (option_map (λ t. Request.Abort t) (only_txn_of (view value.now))) }
+{
+    let txn = only_txn(value)?;
+    Ok(Request::Abort { txn })
+}
+
+pub(crate) fn status_request(value: &Value) -> Result<Request, WireError>
+    ensures { Gives (λ r. r) result (option_map (λ t. Request.Status t) (only_txn_of (view value.now))) }
+{
+    let txn = only_txn(value)?;
+    Ok(Request::Status { txn })
 }
 
 #[tactic(auto, unfolding(crate::specs::Forms::read_of))]

@@ -5,8 +5,9 @@ ghost use Rattle.txn_wire.specs.Lines.{Gives, AsksForSome, form_of, request_of_d
 
 use crate::error::WireError;
 use crate::forms::{
-    ack_request, ack_upto_request, add_request, bare_request, new_request, only_txn,
-    publish_request, read_topic_request, receive_request, redeliver_request,
+    abort_request, ack_request, ack_upto_request, add_request, bare_request, commit_request,
+    new_request, publish_request, read_topic_request, receive_request, redeliver_request,
+    status_request,
 };
 use crate::values::text_at;
 use serde_json::Value;
@@ -58,14 +59,11 @@ fn request_of_form(alloc: Global, name: &str, value: &Value) -> Result<Request, 
     } else if name == "ack_upto" {
         ack_upto_request(alloc, value)
     } else if name == "commit" {
-        let txn = only_txn(value)?;
-        Ok(Request::Commit { txn })
+        commit_request(value)
     } else if name == "abort" {
-        let txn = only_txn(value)?;
-        Ok(Request::Abort { txn })
+        abort_request(value)
     } else if name == "status" {
-        let txn = only_txn(value)?;
-        Ok(Request::Status { txn })
+        status_request(value)
     } else if name == "read" {
         read_topic_request(alloc, value)
     } else if name == "receive" {

@@ -8,7 +8,7 @@ use crate::replies::id_value;
 use crate::words::{status_word, what_word};
 use serde_json::{Value, json};
 use std::alloc::{AllocError, Global};
-use txn_base::{Refusal, Text, TxnId};
+use txn_base::{Refusal, Status, Text, TxnId, What};
 
 // A table of the refusals.
 pub(crate) fn refusal_value(alloc: Global, refusal: &Refusal) -> Result<Value, AllocError>
@@ -25,24 +25,16 @@ pub(crate) fn refusal_value(alloc: Global, refusal: &Refusal) -> Result<Value, A
         Refusal::Empty => refused_value(alloc, "empty"),
         Refusal::UnknownPart { name } => name_value(alloc, "unknown_part", name),
         Refusal::WrongKind { name } => name_value(alloc, "wrong_kind", name),
-        Refusal::UnknownCoordinator { number } => {
-            json!(in alloc; {"no": "unknown_coordinator", "number": *number})
-        }
-        Refusal::NotOpen { status } => {
-            json!(in alloc; {"no": "not_open", "status": status_word(*status)})
-        }
+        Refusal::UnknownCoordinator { number } => unknown_coordinator_value(alloc, *number),
+        Refusal::NotOpen { status } => not_open_value(alloc, *status),
         Refusal::NotRegistered { part } => part_value(alloc, "not_registered", part),
         Refusal::Fault { part } => part_value(alloc, "fault", part),
         Refusal::Recovering { part, at, total } => recovering_value(alloc, part, *at, *total),
         Refusal::Damaged { part, place } => damaged_value(alloc, part, *place),
         Refusal::Unread { place, limit } => unread_value(alloc, *place, *limit),
-        Refusal::AlreadyAcked { place } => {
-            json!(in alloc; {"no": "already_acked", "place": *place})
-        }
+        Refusal::AlreadyAcked { place } => already_acked_value(alloc, *place),
         Refusal::Conflict { place, holder } => conflict_value(alloc, *place, *holder),
-        Refusal::Full { what, count } => {
-            json!(in alloc; {"count": *count, "no": "full", "what": what_word(*what)})
-        }
+        Refusal::Full { what, count } => full_value(alloc, *what, *count),
     }
 }
 
@@ -57,6 +49,18 @@ fn name_value(alloc: Global, no: &str, name: &Text) -> Result<Value, AllocError>
         ≡ object (word (codes "name") name.now (word (codes "no") no.now no_members))) }
 {
     json!(in alloc; {"name": name.as_str(), "no": no})
+}
+
+fn unknown_coordinator_value(alloc: Global, number: u64) -> Result<Value, AllocError>
+    ensures { IfOk result (λ v. view v ≡ refusal_data (Refusal.UnknownCoordinator number)) }
+{
+    json!(in alloc; {"no": "unknown_coordinator", "number": number})
+}
+
+fn not_open_value(alloc: Global, status: Status) -> Result<Value, AllocError>
+    ensures { IfOk result (λ v. view v ≡ refusal_data (Refusal.NotOpen status)) }
+{
+    json!(in alloc; {"no": "not_open", "status": status_word(status)})
 }
 
 fn part_value(alloc: Global, no: &str, part: &Text) -> Result<Value, AllocError>
@@ -84,9 +88,21 @@ fn unread_value(alloc: Global, place: u64, limit: u64) -> Result<Value, AllocErr
     json!(in alloc; {"limit": limit, "no": "unread", "place": place})
 }
 
+fn already_acked_value(alloc: Global, place: u64) -> Result<Value, AllocError>
+    ensures { IfOk result (λ v. view v ≡ refusal_data (Refusal.AlreadyAcked place)) }
+{
+    json!(in alloc; {"no": "already_acked", "place": place})
+}
+
 fn conflict_value(alloc: Global, place: u64, holder: TxnId) -> Result<Value, AllocError>
     ensures { IfOk result (λ v. view v ≡ refusal_data (Refusal.Conflict place holder)) }
 {
     let by = id_value(alloc, holder)?;
     json!(in alloc; {"by": by, "no": "conflict", "place": place})
+}
+
+fn full_value(alloc: Global, what: What, count: u64) -> Result<Value, AllocError>
+    ensures { IfOk result (λ v. view v ≡ refusal_data (Refusal.Full what count)) }
+{
+    json!(in alloc; {"count": count, "no": "full", "what": what_word(what)})
 }

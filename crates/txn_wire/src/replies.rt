@@ -1,14 +1,14 @@
 //! The text of a reply, as the JSON library writes it.
-ghost use Rattle.std.specs.Prelude.{◌≡◌, IfOk};
-ghost use Rattle.serde_json.specs.Data.{array};
+ghost use Rattle.std.specs.Prelude.{◌≡◌, IfOk, Option, Some, None, codes};
+ghost use Rattle.serde_json.specs.Data.{array, object, no_members};
 ghost use Rattle.serde_json.specs.View.{view};
-ghost use Rattle.txn_wire.specs.Replies.{done, id_data, messages_data, message_data, reply_data, text_of};
+ghost use Rattle.txn_wire.specs.Replies.{done, driven_members, id_data, messages_data, message_data, num, reply_data, text_of, why_word, word};
 
 use crate::refusals::refusal_value;
 use crate::words::{decision_word, status_word, why_word};
 use serde_json::{Value, json};
 use std::alloc::{AllocError, Global};
-use txn_base::{Bytes, Decision, Driven, Message, Outcome, Reply, TxnId};
+use txn_base::{Bytes, Decision, Driven, Message, Outcome, Reply, Stuck, TxnId};
 
 /// The text of a reply, with its newline.
 pub fn reply_text(alloc: Global, reply: &Reply) -> Result<Bytes, AllocError>
@@ -75,12 +75,18 @@ fn ended_value(alloc: Global, decision: Decision, outcome: &Outcome) -> Result<V
     let status = status_word(outcome.status);
     match &outcome.stuck {
         None => json!(in alloc; {"ok": ok, "status": status}),
-        Some(stuck) => {
-            let part = stuck.part.as_str();
-            let why = why_word(stuck.why);
-            json!(in alloc; {"ok": ok, "part": part, "status": status, "why": why})
-        }
+        Some(stuck) => stuck_value(alloc, ok, status, stuck),
     }
+}
+
+fn stuck_value(alloc: Global, ok: &str, status: &str, stuck: &Stuck) -> Result<Value, AllocError>
+    ensures { IfOk result (λ v. view v ≡ object (word (codes "ok") ok.now
+        (word (codes "part") stuck.now.part (word (codes "status") status.now
+        (word (codes "why") (why_word stuck.now.why) no_members))))) }
+{
+    let part = stuck.part.as_str();
+    let why = why_word(stuck.why);
+    json!(in alloc; {"ok": ok, "part": part, "status": status, "why": why})
 }
 
 fn read_value(alloc: Global, limit: u64, messages: &[Message]) -> Result<Value, AllocError>
@@ -130,16 +136,34 @@ fn tick_value(
 fn driven_value(alloc: Global, now: u64, left: u64, driven: &Driven) -> Result<Value, AllocError>
     ensures { IfOk result (λ v. view v ≡ reply_data (Reply.Tick now left (Some driven.now))) }
 {
+    match &driven.outcome.stuck {
+        None => drove_value(alloc, now, left, driven),
+        Some(stuck) => drove_stuck_value(alloc, now, left, driven, stuck),
+    }
+}
+
+fn drove_value(alloc: Global, now: u64, left: u64, driven: &Driven) -> Result<Value, AllocError>
+    ensures { IfOk result (λ v. view v ≡ object (num (codes "left") left (num (codes "now") now
+        (word (codes "ok") (codes "tick") (driven_members driven.now.txn driven.now.outcome.status None))))) }
+{
     let txn = id_value(alloc, driven.txn)?;
     let status = status_word(driven.outcome.status);
-    match &driven.outcome.stuck {
-        None => {
-            json!(in alloc; {"left": left, "now": now, "ok": "tick", "status": status, "txn": txn})
-        }
-        Some(stuck) => {
-            let part = stuck.part.as_str();
-            let why = why_word(stuck.why);
-            json!(in alloc; {"left": left, "now": now, "ok": "tick", "part": part, "status": status, "txn": txn, "why": why})
-        }
-    }
+    json!(in alloc; {"left": left, "now": now, "ok": "tick", "status": status, "txn": txn})
+}
+
+fn drove_stuck_value(
+    alloc: Global,
+    now: u64,
+    left: u64,
+    driven: &Driven,
+    stuck: &Stuck,
+) -> Result<Value, AllocError>
+    ensures { IfOk result (λ v. view v ≡ object (num (codes "left") left (num (codes "now") now
+        (word (codes "ok") (codes "tick") (driven_members driven.now.txn driven.now.outcome.status (Some stuck.now)))))) }
+{
+    let txn = id_value(alloc, driven.txn)?;
+    let status = status_word(driven.outcome.status);
+    let part = stuck.part.as_str();
+    let why = why_word(stuck.why);
+    json!(in alloc; {"left": left, "now": now, "ok": "tick", "part": part, "status": status, "txn": txn, "why": why})
 }
