@@ -6,21 +6,21 @@ ghost use Rattle.txn_memdisk.specs.Change.{undo_one, put_back, undone, made, fil
 use std::alloc::{AllocError, Global};
 
 /// What a call did to a file: its size was set, or bytes in a range were written.
-#[derive(Clone, Copy, Debug)]
+#[derive(Clone, Copy)]
 pub enum Change {
     Sized { size: u64 },
     Written { offset: u64, count: u64 },
 }
 
 /// What undoes a change: the size before it and the bytes that it cut off, or bytes that it wrote over.
-#[derive(Debug, Drop)]
+#[derive(Drop)]
 pub enum Undo {
     Size { before: u64, cut: Vec<u8> },
     Bytes { offset: u64, old: Vec<u8> },
 }
 
 /// A change since the last sync of its file.
-#[derive(Debug, Drop)]
+#[derive(Drop)]
 pub struct Pending {
     pub change: Change,
     pub undo: Undo,

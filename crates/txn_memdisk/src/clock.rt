@@ -5,7 +5,7 @@ use std::marker::Model;
 use txn_base::Clock;
 
 /// A clock that tells these moments, and then the last of them again, or 0 where there is none. It takes no memory.
-#[derive(Debug, Drop)]
+#[derive(Drop)]
 pub struct ListClock<'a> {
     moments: &'a [u64],
 }

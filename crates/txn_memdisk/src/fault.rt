@@ -15,7 +15,7 @@ pub enum Op {
 }
 
 /// The nth call of this kind on this file fails, counted from 1.
-#[derive(Clone, Copy, Debug, PartialEq, Eq)]
+#[derive(Clone, Copy, PartialEq, Eq)]
 pub struct FaultAt {
     pub file: FileId,
     pub op: Op,

@@ -8,7 +8,7 @@ use std::alloc::{AllocError, Global};
 use txn_base::FileId;
 
 /// What a file holds, and the changes since its last sync.
-#[derive(Debug, Drop)]
+#[derive(Drop)]
 pub struct MemFile {
     pub id: FileId,
     /// What a read gives.

@@ -11,7 +11,7 @@ use std::marker::Model;
 use txn_base::{Failed, Sink};
 
 /// A sink that keeps what was put. The calls that it was told to fail fail, and those that find no memory.
-#[derive(Debug, Drop)]
+#[derive(Drop)]
 pub struct MemSink {
     bytes: Vec<u8>,
     most: usize,

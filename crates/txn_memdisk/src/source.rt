@@ -11,7 +11,7 @@ use std::marker::Model;
 use txn_base::{Bytes, Failed, Source};
 
 /// A source over bytes in memory. The calls that it was told to fail fail, and no other.
-#[derive(Debug, Drop)]
+#[derive(Drop)]
 pub struct MemSource {
     bytes: Bytes,
     at: usize,
