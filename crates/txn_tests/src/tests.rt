@@ -1,6 +1,4 @@
 //! Tests, by theme, as tables. What they expect was worked out by hand from the rules.
-mod coordinators;
-mod ends;
 mod files;
 mod ledgers;
 mod locks;

@@ -11,9 +11,6 @@ pub const LOG: FileId = FileId { part: 0, row: 2 };
 /// The ledger of the first topic.
 pub const TOPIC: FileId = FileId { part: 1, row: 2 };
 
-/// The first transaction.
-pub const FIRST: TxnId = TxnId { most: 0, least: 0 };
-
 /// An entry: its kind, the least significant number of its transaction, and a part or the byte of a body where it has one.
 pub type Short = (u8, u8, u8);
 

@@ -1,28 +1,37 @@
 //! What a coordinator replays of small logs, and steps of a replay that are refused at their fortieth record.
-ghost use Rattle.std.specs.Prelude.{◌≡◌, ◌≤◌};
+ghost use Rattle.std.specs.Prelude.{◌≡◌, ◌≤◌, IfSome};
 ghost use Rattle.txn_base.specs.Content.{Backed, looked_at};
+ghost use Rattle.txn_ledger.specs.Ledger.{StandsIn};
 
-use super::coordinators::{WINDOW, opened, reopened};
 use super::files::{LOG, Short, disk_of, log_file, txn};
 use std::alloc::{AllocError, Global};
 use std::marker::Brand;
 use std::sync::ledger::{self, Blank};
-use txn_base::{Decision, Disk, MendError, PartState, Progress, Status, Steps, TxnId};
+use txn_base::{Decision, Disk, Limits, MendError, PartState, Progress, Status, Steps, TxnId};
 use txn_coordinator::Coordinator;
 use txn_ledger::{Ledger, RecordLog};
 use txn_memdisk::{FaultAt, MemDisk, Op};
 
-pub const NEW: u8 = 1;
+const NEW: u8 = 1;
 
 const ADD: u8 = 2;
 
-pub const COMMITTING: u8 = 3;
+const COMMITTING: u8 = 3;
 
 const COMMITTED: u8 = 4;
 
 const ABORTING: u8 = 5;
 
 const ABORTED: u8 = 6;
+
+/// Opens the log.
+fn opened<D: Disk>(alloc: Global, disk: &mut D) -> Option<Coordinator<Ledger>>
+    ensures standing { IfSome result (λ c. c.content.standing ≡ looked_at → ⊥) }
+    ensures backed { IfSome result (λ c. Backed StandsIn (D.image disk.new) c.content) }
+{
+    let log = Ledger::open_file(alloc, disk, LOG).ok()?;
+    Coordinator::over(alloc, log, &Limits::standard()).ok()
+}
 
 /// What a step of the replay told, how far it is then, and how many transactions there are.
 type Stepped = (Result<Progress, MendError>, PartState, u64);
@@ -56,7 +65,7 @@ fn three_steps<L: ledger::Ledger>(
     requires one { L.parts ≡ 1 }
 {
     let mut steps = Steps::<L>::new(blank);
-    let mut coordinator = opened(alloc, disk, WINDOW)?;
+    let mut coordinator = opened(alloc, disk)?;
     let first = step(&mut coordinator, disk, named, &mut steps);
     let second = step(&mut coordinator, disk, named, &mut steps);
     let third = step(&mut coordinator, disk, named, &mut steps);
@@ -190,18 +199,48 @@ fn coordinator_stays_where_a_step_is_refused(rt: HostRuntime) -> Result<(), Allo
     Ok(())
 }
 
-/// Opens a log, and replays it in one step.
+/// The status of a transaction, how it ends, and its parts.
+type Seen = (Option<Status>, Option<Decision>, u64);
+
+/// Whether each transaction is told as it should be.
+fn are_told<R: RecordLog>(coordinator: &Coordinator<R>, wants: &[(TxnId, Seen)]) -> bool {
+    for (txn, want) in wants {
+        let seen = (
+            coordinator.status(*txn),
+            coordinator.decision(*txn),
+            coordinator.parts(*txn),
+        );
+        if seen != *want {
+            return false;
+        }
+    }
+    true
+}
+
+/// How many transactions there are, the least that isn't closed, and the first that is decided and isn't closed.
+type Counted = (u64, u64, Option<TxnId>);
+
+/// Opens a log, and replays it in one step. Whether it tells that, and whether each transaction is told as it should be; and its
+/// counts.
 fn replayed<L: ledger::Ledger>(
     alloc: Global,
     blank: Blank,
     disk: &mut MemDisk,
-) -> Option<Coordinator<Ledger>>
+    wants: &[(TxnId, Seen)],
+) -> Option<(bool, bool, Counted)>
     requires name { blank.name ≡ L.name }
     requires parts { blank.parts ≡ L.parts }
     requires one { L.parts ≡ 1 }
 {
+    let mut coordinator = opened(alloc, disk)?;
     let mut steps = Steps::<L>::new(blank);
-    reopened(alloc, disk, WINDOW, &mut steps)
+    let mended = coordinator.mend_step(disk, 62, &mut steps).is_ok();
+    let counted = (
+        coordinator.count(),
+        coordinator.low(),
+        coordinator.first_undriven(),
+    );
+    Some((mended, are_told(&coordinator, wants), counted))
 }
 
 // Six transactions: committed, open, open, aborted, committing, aborting.
@@ -224,28 +263,21 @@ const STATUSES: [Short; 14] = [
 
 #[test]
 fn each_status_is_replayed(rt: HostRuntime) -> Result<(), AllocError> {
-    let alloc = rt.alloc();
-    let bytes = log_file(alloc, &STATUSES)?;
-    let mut disk = disk_of(alloc, LOG, bytes.as_slice(), &[])?;
-    let Some(told) = replayed::<Brand>(alloc, Blank::new(1), &mut disk) else {
-        panic!(rt; "a lawful log");
-    };
     let commit = Some(Decision::Commit);
     let abort = Some(Decision::Abort);
-    for (txn, status, decision, parts) in [
-        (txn(0), Some(Status::Committed), commit, 0b110),
-        (txn(1), Some(Status::Open), None, 0),
-        (txn(2), Some(Status::Open), None, 0),
-        (txn(3), Some(Status::Aborted), abort, 0),
-        (txn(4), Some(Status::Committing), commit, 0),
-        (txn(5), Some(Status::Aborting), abort, 0),
-        (txn(6), None, None, 0),
-        (TxnId { most: 1, least: 0 }, None, None, 0),
-    ] {
-        let seen = (told.status(txn), told.decision(txn), told.parts(txn));
-        assert_eq!(rt; seen, (status, decision, parts), "{txn:?}");
-    }
-    assert_eq!(rt; (told.count(), told.low()), (6, 1));
-    assert_eq!(rt; told.first_undriven(), Some(txn(4)));
+    let wants = [
+        (txn(0), (Some(Status::Committed), commit, 0b110)),
+        (txn(1), (Some(Status::Open), None, 0)),
+        (txn(2), (Some(Status::Open), None, 0)),
+        (txn(3), (Some(Status::Aborted), abort, 0)),
+        (txn(4), (Some(Status::Committing), commit, 0)),
+        (txn(5), (Some(Status::Aborting), abort, 0)),
+        (txn(6), (None, None, 0)),
+        (TxnId { most: 1, least: 0 }, (None, None, 0)),
+    ];
+    let bytes = log_file(rt.alloc(), &STATUSES)?;
+    let mut disk = disk_of(rt.alloc(), LOG, bytes.as_slice(), &[])?;
+    let told = replayed::<Brand>(rt.alloc(), Blank::new(1), &mut disk, &wants);
+    assert_eq!(rt; told, Some((true, true, (6, 1, Some(txn(4))))));
     Ok(())
 }

@@ -12,16 +12,16 @@ use txn_buffer::Topic;
 use txn_ledger::{Ledger, RecordLog};
 use txn_memdisk::{FaultAt, MemDisk, Op};
 
-pub const PLAIN: u8 = 1;
+const PLAIN: u8 = 1;
 
-pub const INSIDE: u8 = 2;
+const INSIDE: u8 = 2;
 
-pub const COMMIT: u8 = 3;
+const COMMIT: u8 = 3;
 
 const ABORT: u8 = 4;
 
 /// Opens the ledger.
-pub fn opened<D: Disk>(alloc: Global, disk: &mut D) -> Option<Topic<Ledger>>
+fn opened<D: Disk>(alloc: Global, disk: &mut D) -> Option<Topic<Ledger>>
     ensures standing { IfSome result (λ t. t.content.standing ≡ looked_at → ⊥) }
     ensures backed { IfSome result (λ t. Backed StandsIn (D.image disk.new) t.content) }
 {
@@ -60,9 +60,16 @@ fn read_63<D: Disk, R: RecordLog, L: ledger::Ledger>(
     Some(first.place)
 }
 
-type Told = (Stepped, Stepped, Option<Decision>, Option<u64>, Stepped);
+type Told = (
+    Stepped,
+    Stepped,
+    Option<Decision>,
+    Option<u64>,
+    Stepped,
+    u64,
+);
 
-/// Opens a ledger, and makes three steps, with a look at the topic after the second.
+/// Opens a ledger, and makes three steps, with a look at the topic after the second; and how many entries it has.
 fn three_steps<L: ledger::Ledger>(alloc: Global, blank: Blank, disk: &mut MemDisk) -> Option<Told>
     requires name { blank.name ≡ L.name }
     requires parts { blank.parts ≡ L.parts }
@@ -75,7 +82,7 @@ fn three_steps<L: ledger::Ledger>(alloc: Global, blank: Blank, disk: &mut MemDis
     let marker = topic.marker(txn(0));
     let read = read_63(&topic, disk, &mut steps);
     let third = step(&mut topic, disk, &mut steps);
-    Some((first, second, marker, read, third))
+    Some((first, second, marker, read, third, topic.len()))
 }
 
 // Ledgers, and the limit of each, and how the first transaction ended there; or the entry at which it stops being lawful.
@@ -140,7 +147,10 @@ fn ledgers_stop_being_lawful(rt: HostRuntime) -> Result<(), AllocError> {
                 ((damaged, PartState::Mending { at: 0, total }, 0), None)
             }
         };
-        assert_eq!(rt; told, Some((stepped, stepped, marker, None, stepped)));
+        assert_eq!(rt;
+            told,
+            Some((stepped, stepped, marker, None, stepped, total))
+        );
     }
     Ok(())
 }
@@ -190,7 +200,7 @@ fn topic_stays_where_a_step_is_refused(rt: HostRuntime) -> Result<(), AllocError
         };
         let mut disk = disk_of(alloc, TOPIC, bytes.as_slice(), &[fault])?;
         let told = three_steps::<Brand>(alloc, Blank::new(1), &mut disk);
-        assert_eq!(rt; told, Some((first, second, None, Some(63), third)));
+        assert_eq!(rt; told, Some((first, second, None, Some(63), third, 128)));
     }
     Ok(())
 }
