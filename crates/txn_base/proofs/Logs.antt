@@ -1,7 +1,9 @@
 -- Logs of records on a disk, beside each other.
 use Rattle.std.proofs.Common.{◌≡◌, ⊎_elim, inl, inr, ℕ, List, [], ◌∷◌, ◌++◌, subst}
 use Rattle.txn_base.specs.declared.file_id.FileId.{FileId}
-use Rattle.txn_base.specs.Disk.{Files, Since}
+use Rattle.txn_base.specs.declared.disk.Disk.{Ghosts}
+use Rattle.txn_base.specs.Disk.{Files}
+use Rattle.txn_base.specs.Moves.{After}
 use Rattle.txn_base.specs.Frames.{Batch}
 use Rattle.txn_base.specs.Content.{Standing, settled, in_flight, looked_at, LedgerContent, Backed, KeptOrNot}
 
@@ -20,9 +22,9 @@ module _ (stands : FileId → Files → List Batch → Type 0) where
         kept_or_not looked_at is = local content.key c d content.batches same is
         kept_or_not (in_flight batch) is = ⊎_elim (λ none. inl (local content.key c d content.batches same none)) (λ all. inr (local content.key c d (content.batches ++ batch ∷ []) same all)) is
 
-    pub stays_backed : {D : Type 0} (moment : D → ℕ) (image : D → Files → Type 0) (left_since : D → ℕ → Files → Type 0) (step : Files → Files → Type 0) (old new : D) (content : LedgerContent)
+    pub stays_backed : {D : Type 0} (on : Ghosts D) (step : Files → Files → Type 0) (old new : D) (content : LedgerContent)
         → ((d c : Files) → step d c → (file : FileId) → mine content.key file → c file ≡ d file)
-        → Since moment image left_since step old new → Backed stands (image old) content → Backed stands (image new) content
-    stays_backed moment image left_since step old new content same since backed = record {
+        → After on step old new → Backed stands (on.image old) content → Backed stands (on.image new) content
+    stays_backed on step old new content same since backed = record {
       each = λ c at. let d = since.at_end c at in stays content d.0 c (same d.0 c d.2) (backed.each d.0 d.1);
     }

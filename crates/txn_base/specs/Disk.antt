@@ -11,6 +11,10 @@ Files = FileId → List ℕ
 abbrev pub Elsewhere : FileId → Files → Files → Type 0
 Elsewhere file before after = (other : FileId) → (other ≡ file → ⊥) → after other ≡ before other
 
+-- no file changes but these
+abbrev pub ChangesOnly : (FileId → Type 0) → Files → Files → Type 0
+ChangesOnly mine before after = (other : FileId) → (mine other → ⊥) → after other ≡ before other
+
 -- this file changes so, and no other does
 pub record Changes (file : FileId) (step : List ℕ → List ℕ → Type 0) (before after : Files) : Type 0 where
   pub here : step (before file) (after file)

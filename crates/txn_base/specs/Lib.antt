@@ -2,10 +2,12 @@ pub mod Bytes
 pub mod Content
 pub mod Decoded
 pub mod Disk
+pub mod FaultCounts
 pub mod Entries
 pub mod FileName
 pub mod Frames
 pub mod Limits
+pub mod Moves
 pub mod Names
 pub mod Outside
 pub mod Records

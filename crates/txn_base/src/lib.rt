@@ -2,12 +2,14 @@
 #![tactic(auto)]
 
 mod bytes;
+mod calls;
 mod clock;
 mod content;
 mod core_entry;
 mod disk;
 mod entry;
 mod failed;
+mod fault_counts;
 mod file_id;
 mod file_name;
 mod finding;
@@ -28,12 +30,14 @@ mod txn;
 mod usage;
 
 pub use bytes::Bytes;
+pub use calls::Calls;
 pub use clock::Clock;
 pub use content::{ContentCarrier, ReadsContent};
 pub use core_entry::CoreEntry;
 pub use disk::Disk;
 pub use entry::{AckEntry, CoordEntry, TopicEntry};
 pub use failed::Failed;
+pub use fault_counts::FaultCounts;
 pub use file_id::FileId;
 pub use file_name::FileName;
 pub use finding::{Finding, Law};

@@ -1,9 +1,11 @@
 -- Calls that only read a disk, in a row.
 use Rattle.std.proofs.Common.{⊎_elim, ℕ, List, [], ◌∷◌, ◌++◌, refl, sym, ◌∙◌, subst, arith}
 use Rattle.std.proofs.lemmas.List.{append-nil}
+use Rattle.txn_base.specs.declared.disk.Disk.{Ghosts}
+use Rattle.txn_base.specs.Moves.{After}
 use Rattle.txn_base.specs.declared.file_id.FileId.{FileId}
 use Rattle.txn_base.specs.Content.{LedgerContent, Standing, settled, in_flight, looked_at, KeptOrNot, Backed}
-use Rattle.txn_base.specs.Disk.{Files, Since, Same, CountsFaults}
+use Rattle.txn_base.specs.Disk.{Files, Same, CountsFaults}
 use Rattle.txn_base.specs.Frames.{Batch}
 use Rattle.txn_base.proofs.Laws.{started, goes_on}
 use Rattle.txn_buffer.specs.Reads.{OnlyReads}
@@ -47,30 +49,30 @@ counts_as part before now parts_before parts_now P Q from one = record {
   others = one.others;
 }
 
-module _ {D : Type 0} (moment : D → ℕ) (image : D → Files → Type 0) (left_since : D → ℕ → Files → Type 0) (seen : D → Files) (faults : D → ℕ) (part_faults : D → ℕ → ℕ) (part : ℕ) where
-  pub reads_none : (disk : D) → OnlyReads moment image left_since seen faults part_faults part ⊥ disk disk
+module _ {D : Type 0} (on : Ghosts D) (part : ℕ) where
+  pub reads_none : (disk : D) → OnlyReads on part ⊥ disk disk
   reads_none disk = record {
     seen_same = refl;
-    images = started moment image left_since disk Same (λ c at. refl);
-    cause = counts_none part (faults disk) (part_faults disk);
+    images = started on disk Same (λ c at. refl);
+    cause = counts_none part (on.faults disk) (on.part_faults disk);
   }
 
-  pub reads_on : (is_fault : Type 0) (old mid new : D) → OnlyReads moment image left_since seen faults part_faults part ⊥ old mid → OnlyReads moment image left_since seen faults part_faults part is_fault mid new
-      → OnlyReads moment image left_since seen faults part_faults part is_fault old new
+  pub reads_on : (is_fault : Type 0) (old mid new : D) → OnlyReads on part ⊥ old mid → OnlyReads on part is_fault mid new
+      → OnlyReads on part is_fault old new
   reads_on is_fault old mid new one two = record {
     seen_same = two.seen_same ∙ one.seen_same;
-    images = goes_on moment image left_since Same Same Same old mid new one.images two.images (λ d c at is. is) (λ d e c at one_step mid_at two_step. two_step ∙ one_step);
-    cause = counts_on part (faults old) (faults mid) (faults new) (part_faults old) (part_faults mid) (part_faults new) is_fault one.cause two.cause;
+    images = goes_on on Same Same Same old mid new one.images two.images (λ d c at is. is) (λ d e c at one_step mid_at two_step. two_step ∙ one_step);
+    cause = counts_on part (on.faults old) (on.faults mid) (on.faults new) (on.part_faults old) (on.part_faults mid) (on.part_faults new) is_fault one.cause two.cause;
   }
 
-  pub reads_as : (P Q : Type 0) (old new : D) → (Q → P) → OnlyReads moment image left_since seen faults part_faults part P old new → OnlyReads moment image left_since seen faults part_faults part Q old new
+  pub reads_as : (P Q : Type 0) (old new : D) → (Q → P) → OnlyReads on part P old new → OnlyReads on part Q old new
   reads_as P Q old new from one = record {
     seen_same = one.seen_same;
     images = one.images;
-    cause = counts_as part (faults old) (faults new) (part_faults old) (part_faults new) P Q from one.cause;
+    cause = counts_as part (on.faults old) (on.faults new) (on.part_faults old) (on.part_faults new) P Q from one.cause;
   }
 
-  pub still_backed : (stands : FileId → Files → List Batch → Type 0) (content : LedgerContent) (old new : D) → Since moment image left_since Same old new → Backed stands (image old) content → Backed stands (image new) content
+  pub still_backed : (stands : FileId → Files → List Batch → Type 0) (content : LedgerContent) (old new : D) → After on Same old new → Backed stands (on.image old) content → Backed stands (on.image new) content
   still_backed stands content old new since backed = record {
     each = λ c at. let d = since.at_end c at in subst (λ e. KeptOrNot (stands content.key e) content.batches content.standing) (sym d.2) (backed.each d.0 d.1);
   }

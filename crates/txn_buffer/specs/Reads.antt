@@ -1,10 +1,11 @@
 -- Calls that only read a disk.
 use Rattle.std.specs.Prelude.{◌≡◌, ℕ}
-use Rattle.txn_base.specs.Disk.{Files, Since, Same, CountsFaults}
+use Rattle.txn_base.specs.declared.disk.Disk.{Ghosts}
+use Rattle.txn_base.specs.Disk.{Same}
+use Rattle.txn_base.specs.Moves.{After, FaultsIn}
 
 -- Nothing changes on the disk but its counts, and those as the calls on files of this part failed.
-pub record OnlyReads {D : Type 0} (moment : D → ℕ) (image : D → Files → Type 0) (left_since : D → ℕ → Files → Type 0) (seen : D → Files) (faults : D → ℕ) (part_faults : D → ℕ → ℕ)
-    (part : ℕ) (is_fault : Type 0) (old new : D) : Type 0 where
-  pub seen_same : seen new ≡ seen old
-  pub images : Since moment image left_since Same old new
-  pub cause : CountsFaults part (faults old) (faults new) (part_faults old) (part_faults new) is_fault
+pub record OnlyReads {D : Type 0} (disk : Ghosts D) (part : ℕ) (is_fault : Type 0) (old new : D) : Type 0 where
+  pub seen_same : disk.seen new ≡ disk.seen old
+  pub images : After disk Same old new
+  pub cause : FaultsIn disk part old new is_fault

@@ -1,9 +1,11 @@
 -- Calls that read, one after the other.
 use Rattle.std.proofs.Common.{◌≡◌, ℕ, ◌≤◌, arith, List, [], ◌++◌, sym, ◌∙◌, subst}
 use Rattle.std.proofs.lemmas.List.{append-nil}
+use Rattle.txn_base.specs.declared.disk.Disk.{Ghosts}
+use Rattle.txn_base.specs.Moves.{After}
 use Rattle.txn_base.specs.declared.file_id.FileId.{FileId}
 use Rattle.txn_base.specs.Content.{LedgerContent, settled, Backed, KeptOrNot}
-use Rattle.txn_base.specs.Disk.{Files, Since, Same, CountsFaults}
+use Rattle.txn_base.specs.Disk.{Files, Same, CountsFaults}
 use Rattle.txn_base.specs.Frames.{Batch}
 use Rattle.txn_base.specs.Outside.{Rose}
 use Rattle.txn_base.proofs.Laws.{settled_stands, started, goes_on}
@@ -14,14 +16,14 @@ pub begins_settled : (stands begins : FileId → Files → List Batch → Type 0
 begins_settled stands begins stands_begins image content is backed c at =
     stands_begins content.key c content.batches [] (subst (λ (l : List Batch). stands content.key c l) (sym (append-nil content.batches)) (settled_stands stands image content is backed c at))
 
-module _ {D : Type 0} (moment : D → ℕ) (image : D → Files → Type 0) (left_since : D → ℕ → Files → Type 0) where
-  pub same_started : (disk : D) → Since moment image left_since Same disk disk
-  same_started disk = started moment image left_since disk Same (λ c at i. c)
+module _ {D : Type 0} (on : Ghosts D) where
+  pub same_started : (disk : D) → After on Same disk disk
+  same_started disk = started on disk Same (λ c at i. c)
 
-  pub same_then : (old mid new : D) → Since moment image left_since Same old mid → Since moment image left_since Same mid new → Since moment image left_since Same old new
-  same_then old mid new one two = goes_on moment image left_since Same Same Same old mid new one two (λ d c at is. is) (λ d e c at first mid_at second. second ∙ first)
+  pub same_then : (old mid new : D) → After on Same old mid → After on Same mid new → After on Same old new
+  same_then old mid new one two = goes_on on Same Same Same old mid new one two (λ d c at is. is) (λ d e c at first mid_at second. second ∙ first)
 
-  pub backed_same : (stands : FileId → Files → List Batch → Type 0) (content : LedgerContent) (old new : D) → Since moment image left_since Same old new → Backed stands (image old) content → Backed stands (image new) content
+  pub backed_same : (stands : FileId → Files → List Batch → Type 0) (content : LedgerContent) (old new : D) → After on Same old new → Backed stands (on.image old) content → Backed stands (on.image new) content
   backed_same stands content old new since backed =
       record { each = λ c at. let d = since.at_end c at in subst (λ (f : Files). KeptOrNot (stands content.key f) content.batches content.standing) (sym d.2) (backed.each d.0 d.1) }
 

@@ -2,9 +2,10 @@
 ghost use Rattle.std.specs.Prelude.{◌≡◌, ◌≤◌, ◌+◌, ◌∷◌, [], ◌++◌, true, Err, OnOk, OnErr};
 ghost use Rattle.txn_base.specs.declared.file_id.FileId.{FileId};
 ghost use Rattle.txn_base.specs.Content.{settled, landed, begun, Backed, Appends};
-ghost use Rattle.txn_base.specs.Disk.{Since, HasPartCause};
+ghost use Rattle.txn_base.specs.Disk.{ChangesOnly};
 ghost use Rattle.txn_base.specs.Records.{IsCoordEntry};
 ghost use Rattle.txn_base.specs.Room.{capacity};
+ghost use Rattle.txn_base.specs.Moves.{After, FailsIn};
 ghost use Rattle.txn_model.specs.Skeletons.{coord_skeleton, coord_skeletons};
 ghost use Rattle.txn_model.specs.Coord.{coord_allows};
 ghost use Rattle.txn_coordinator.specs.Table.{is_new_entry};
@@ -47,9 +48,9 @@ pub fn log_entry<D: Disk, R: RecordLog>(
     ensures room { R.room log.old ≤ R.room log.new }
     ensures bytes { 26 ≤ capacity bytes.new }
     ensures backed { Backed R.stands (D.image disk.new) (R.content log.new) }
-    ensures images { Since D.moment D.image D.left_since (Appends R.mine R.stands (R.content log.old) (coord_batch entry)) disk.old disk.new }
-    ensures others { (other : FileId) → (R.mine (R.content log.old).key other → ⊥) → D.seen disk.new other ≡ D.seen disk.old other }
-    ensures cause { HasPartCause (R.content log.old).key.part (D.faults disk.old) (D.faults disk.new) (D.part_faults disk.old) (D.part_faults disk.new) result }
+    ensures images { After D.Disk (Appends R.mine R.stands (R.content log.old) (coord_batch entry)) disk.old disk.new }
+    ensures others { ChangesOnly (R.mine (R.content log.old).key) (D.seen disk.old) (D.seen disk.new) }
+    ensures cause { FailsIn D.Disk (R.content log.old).key.part disk.old disk.new result }
 {
     bytes.clear();
     put_coord(&entry, bytes);

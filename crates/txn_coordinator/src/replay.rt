@@ -3,9 +3,10 @@ ghost use Rattle.std.specs.Prelude.{◌≡◌, ◌≤◌, ◌<◌, ◌+◌, ◌+
 ghost use Rattle.txn_base.specs.declared.entry.CoordEntry.{CoordEntry};
 ghost use Rattle.txn_base.specs.Content.{settled, Backed};
 ghost use Rattle.txn_base.specs.Decoded.{coord_entries};
-ghost use Rattle.txn_base.specs.Disk.{Since, Same, CountsFaults};
+ghost use Rattle.txn_base.specs.Disk.{Same};
 ghost use Rattle.txn_base.specs.Frames.{records};
 ghost use Rattle.txn_base.specs.Records.{IsCoordEntry, IsCoordRecord};
+ghost use Rattle.txn_base.specs.Moves.{After, FaultsIn};
 ghost use Rattle.txn_coordinator.specs.Mending.{record_at, AreRecordsFrom, AreRecordsTo, AreReplayed, IsBadRecord};
 ghost use Rattle.txn_coordinator.specs.Table.{AreEntries};
 ghost use Rattle.txn_model.specs.Coord.{CoordLawful};
@@ -36,8 +37,8 @@ fn read_entry<D: Disk, L: ledger::Ledger, R: RecordLog>(
     ensures bad { D.tells → result ≡ Err (MendError.Damaged place) → (e : CoordEntry) → IsCoordRecord (record_at (R.content log.now) place) e → ⊥ }
     ensures counted { steps.new ≡ steps.old + 1 }
     ensures seen { D.seen disk.new ≡ D.seen disk.old }
-    ensures images { Since D.moment D.image D.left_since Same disk.old disk.new }
-    ensures cause { CountsFaults (R.content log.now).key.part (D.faults disk.old) (D.faults disk.new) (D.part_faults disk.old) (D.part_faults disk.new) (result ≡ Err MendError.Fault) }
+    ensures images { After D.Disk Same disk.old disk.new }
+    ensures cause { FaultsIn D.Disk (R.content log.now).key.part disk.old disk.new (result ≡ Err MendError.Fault) }
 {
     match log.get(alloc, disk, place, steps) {
         Ok(bytes) => match read_coord(bytes.as_slice()) {
@@ -79,8 +80,8 @@ pub fn stage<D: Disk, L: ledger::Ledger, R: RecordLog>(
     ensures counted { OnOk result (steps.new + at ≡ steps.old + end) }
     ensures few { steps.new + at ≤ steps.old + end }
     ensures seen { D.seen disk.new ≡ D.seen disk.old }
-    ensures images { Since D.moment D.image D.left_since Same disk.old disk.new }
-    ensures cause { CountsFaults (R.content log.now).key.part (D.faults disk.old) (D.faults disk.new) (D.part_faults disk.old) (D.part_faults disk.new) (result ≡ Err MendError.Fault) }
+    ensures images { After D.Disk Same disk.old disk.new }
+    ensures cause { FaultsIn D.Disk (R.content log.now).key.part disk.old disk.new (result ≡ Err MendError.Fault) }
 {
     let Ok(mut staged) = Vec::with_capacity(alloc, (end - at) as usize) else {
         return Err(MendError::NoMemory);
@@ -136,8 +137,8 @@ pub fn replay<D: Disk, L: ledger::Ledger, R: RecordLog>(
     ensures counted { OnOk result (steps.new + at ≡ steps.old + end) }
     ensures few { steps.new + at ≤ steps.old + end }
     ensures seen { D.seen disk.new ≡ D.seen disk.old }
-    ensures images { Since D.moment D.image D.left_since Same disk.old disk.new }
-    ensures cause { CountsFaults (R.content log.now).key.part (D.faults disk.old) (D.faults disk.new) (D.part_faults disk.old) (D.part_faults disk.new) (result ≡ Err MendError.Fault) }
+    ensures images { After D.Disk Same disk.old disk.new }
+    ensures cause { FaultsIn D.Disk (R.content log.now).key.part disk.old disk.new (result ≡ Err MendError.Fault) }
 {
     let _count = table.count();
     let staged = stage(alloc, log, table, named, disk, at, end, steps)?;

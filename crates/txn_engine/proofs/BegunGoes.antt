@@ -1,5 +1,7 @@
 -- How an engine goes on through a call of its coordinator.
 use Rattle.std.proofs.Common.{◌≡◌, ◌⊎◌, inl, inr, ℕ, ◌+◌, ◌==◌, Bool, true, false, List, Option, Some, None, Result, Ok, Err, IfErr, OnOk, IsOk, MatchOption, IsTrue, option_map, refl, sym, ap, ◌∙◌, subst}
+use Rattle.txn_base.specs.declared.disk.Disk.{Ghosts}
+use Rattle.txn_base.specs.Moves.{After, FaultsIn}
 use Rattle.txn_base.specs.declared.entry.CoordEntry.{CoordEntry}
 use Rattle.txn_base.specs.declared.entry.CoordEntry.TheVariants as coord
 use Rattle.txn_base.specs.declared.request.Request.{Request}
@@ -7,7 +9,7 @@ use Rattle.txn_base.specs.declared.request.Request.TheVariants as request
 use Rattle.txn_base.specs.declared.reply.Reply.TheVariants as reply
 use Rattle.txn_base.specs.declared.txn.TxnId.{TxnId}
 use Rattle.txn_base.specs.Content.{Appends, Backed}
-use Rattle.txn_base.specs.Disk.{Files, Elsewhere, Since, CountsFaults}
+use Rattle.txn_base.specs.Disk.{Elsewhere}
 use Rattle.txn_base.specs.Records.{IsCoordEntry}
 use Rattle.txn_ledger.specs.Ledger.{IsFile, StandsIn}
 use Rattle.txn_coordinator.specs.declared.error.CoordError.{CoordError}
@@ -57,28 +59,28 @@ fault_refusal (coord_error.Full what count) h = cc
 fault_refusal coord_error.Fault h = refl
 fault_refusal coord_error.NoMemory h = cc
 
-module _ {D : Type 0} (moment : D → ℕ) (image : D → Files → Type 0) (left_since : D → ℕ → Files → Type 0) (seen : D → Files) (faults : D → ℕ) (part_faults : D → ℕ → ℕ) (v : EngineView) (is : IsEngine v) (whole : IsWhole v) (old new : D) (backed : IsBacked (image old) v) where
+module _ {D : Type 0} (on : Ghosts D) (v : EngineView) (is : IsEngine v) (whole : IsWhole v) (old new : D) (backed : IsBacked (on.image old) v) where
   -- nothing happened
-  pub still_goes : (X : Type 0) → (X → ⊥) → (c' : CoordView) → c' ≡ v.coord → new ≡ old → Goes moment image left_since seen faults part_faults X v (with_coord v c') old new
-  still_goes X none c' same disk = subst (λ (d : D). Goes moment image left_since seen faults part_faults X v (with_coord v c') old d) (sym disk) (goes_still moment image left_since seen faults part_faults X none v (with_coord v c') old whole backed refl same refl)
+  pub still_goes : (X : Type 0) → (X → ⊥) → (c' : CoordView) → c' ≡ v.coord → new ≡ old → Goes on X v (with_coord v c') old new
+  still_goes X none c' same disk = subst (λ (d : D). Goes on X v (with_coord v c') old d) (sym disk) (goes_still on X none v (with_coord v c') old whole backed refl same refl)
 
   -- where the coordinator refuses or fails
   module _ {A : Type 0} (o : Option CoordError) (no_fault : o ≡ Some coord_error.Fault → ⊥) (r : Result A CoordError) (refused : MatchOption o (MayFail r) (λ x. r ≡ Err x)) (entry : CoordEntry) (fits : IsCoordEntry entry)
-      (allowed : o ≡ None → IsTied v → Lawful (world_of v) → IsAllowed (in_coord entry) (world_of v)) (c' : CoordView) (tied : coordinator.IsFrontOf v.coord → coordinator.IsFrontOf c') (here : Backed StandsIn (image new) c'.content)
-      (since : Since moment image left_since (Appends IsFile StandsIn v.coord.content (coord_batch entry)) old new) (others : Elsewhere v.coord.content.key (seen old) (seen new)) (cause : CountsFaults v.coord.content.key.part (faults old) (faults new) (part_faults old) (part_faults new) (r ≡ Err coord_error.Fault)) where
-    pub error_goes : (e : CoordError) → r ≡ Err e → ((e ≡ coord_error.Fault → ⊥) → c' ≡ v.coord) → ((e ≡ coord_error.Fault → ⊥) → new ≡ old) → Goes moment image left_since seen faults part_faults (is_fault (reply.No (coord_refusal e)) ≡ true) v (with_coord v c') old new
+      (allowed : o ≡ None → IsTied v → Lawful (world_of v) → IsAllowed (in_coord entry) (world_of v)) (c' : CoordView) (tied : coordinator.IsFrontOf v.coord → coordinator.IsFrontOf c') (here : Backed StandsIn (on.image new) c'.content)
+      (since : After on (Appends IsFile StandsIn v.coord.content (coord_batch entry)) old new) (others : Elsewhere v.coord.content.key (on.seen old) (on.seen new)) (cause : FaultsIn on v.coord.content.key.part old new (r ≡ Err coord_error.Fault)) where
+    pub error_goes : (e : CoordError) → r ≡ Err e → ((e ≡ coord_error.Fault → ⊥) → c' ≡ v.coord) → ((e ≡ coord_error.Fault → ⊥) → new ≡ old) → Goes on (is_fault (reply.No (coord_refusal e)) ≡ true) v (with_coord v c') old new
     error_goes e is_err same still = by_case (refusal_is o r e is_err refused)
       where
-        quiet : (e ≡ coord_error.Fault → ⊥) → Goes moment image left_since seen faults part_faults (is_fault (reply.No (coord_refusal e)) ≡ true) v (with_coord v c') old new
+        quiet : (e ≡ coord_error.Fault → ⊥) → Goes on (is_fault (reply.No (coord_refusal e)) ≡ true) v (with_coord v c') old new
         quiet ne = still_goes (is_fault (reply.No (coord_refusal e)) ≡ true) (no_fault_refusal e ne) c' (same ne) (still ne)
 
         other : e ≡ coord_error.NoMemory → e ≡ coord_error.Fault → ⊥
         other p q = cc
 
-        by_case : (o ≡ Some e) ⊎ ((o ≡ None) × ((e ≡ coord_error.Fault) ⊎ (e ≡ coord_error.NoMemory))) → Goes moment image left_since seen faults part_faults (is_fault (reply.No (coord_refusal e)) ≡ true) v (with_coord v c') old new
+        by_case : (o ≡ Some e) ⊎ ((o ≡ None) × ((e ≡ coord_error.Fault) ⊎ (e ≡ coord_error.NoMemory))) → Goes on (is_fault (reply.No (coord_refusal e)) ≡ true) v (with_coord v c') old new
         by_case (inl some) = quiet (λ f. no_fault (some ∙ ap (λ x. Some x) f))
         by_case (inr (none, inl fault)) =
-            coord_goes moment image left_since seen faults part_faults v is whole old new backed (is_fault (reply.No (coord_refusal e)) ≡ true) (r ≡ Err coord_error.Fault) entry (with_coord v c') fits (allowed none) refl refl
+            coord_goes on v is whole old new backed (is_fault (reply.No (coord_refusal e)) ≡ true) (r ≡ Err coord_error.Fault) entry (with_coord v c') fits (allowed none) refl refl
             (inr (subst (λ (x : CoordError). is_fault (reply.No (coord_refusal x)) ≡ true) (sym fault) refl)) tied here since others cause (λ x. is_err ∙ ap (λ y. Err y) fault)
         by_case (inr (none, inr memory)) = quiet (other memory)
 
@@ -92,11 +94,11 @@ module _ {D : Type 0} (moment : D → ℕ) (image : D → Files → Type 0) (lef
     new_allowed none = row_allowed v is whole (request.New timeout) (in_coord new_entry) (early_new v.limits v timeout ok) (begin_row v is whole timeout ok ∙ ap (option_map coord_refusal) none) refl
 
     pub begun_goes : (no_fault : begin_refusal v.coord timeout ≡ Some coord_error.Fault → ⊥) (r : Result TxnId CoordError) (c' : CoordView) → IsCoordEntry new_entry → MatchOption (begin_refusal v.coord timeout) (MayFail r) (λ x. r ≡ Err x) → OnOk r (c' ≡ logged v.coord new_entry)
-        → IfErr r (λ e. (e ≡ coord_error.Fault → ⊥) → c' ≡ v.coord) → IfErr r (λ e. (e ≡ coord_error.Fault → ⊥) → new ≡ old) → (coordinator.IsFrontOf v.coord → coordinator.IsFrontOf c') → Backed StandsIn (image new) c'.content
-        → Since moment image left_since (Appends IsFile StandsIn v.coord.content (coord_batch new_entry)) old new → Elsewhere v.coord.content.key (seen old) (seen new) → CountsFaults v.coord.content.key.part (faults old) (faults new) (part_faults old) (part_faults new) (r ≡ Err coord_error.Fault)
-        → Goes moment image left_since seen faults part_faults (is_fault (begun_reply r) ≡ true) v (with_coord v c') old new
+        → IfErr r (λ e. (e ≡ coord_error.Fault → ⊥) → c' ≡ v.coord) → IfErr r (λ e. (e ≡ coord_error.Fault → ⊥) → new ≡ old) → (coordinator.IsFrontOf v.coord → coordinator.IsFrontOf c') → Backed StandsIn (on.image new) c'.content
+        → After on (Appends IsFile StandsIn v.coord.content (coord_batch new_entry)) old new → Elsewhere v.coord.content.key (on.seen old) (on.seen new) → FaultsIn on v.coord.content.key.part old new (r ≡ Err coord_error.Fault)
+        → Goes on (is_fault (begun_reply r) ≡ true) v (with_coord v c') old new
     begun_goes no_fault (Ok x) c' fits refused now same still tied here since others cause =
-        coord_goes moment image left_since seen faults part_faults v is whole old new backed (false ≡ true) (◌≡◌ {A = Result TxnId CoordError} (Ok x) (Err coord_error.Fault)) new_entry (with_coord v c') fits (new_allowed (not_refused (begin_refusal v.coord timeout) (Ok x) x refl refused)) refl refl
+        coord_goes on v is whole old new backed (false ≡ true) (◌≡◌ {A = Result TxnId CoordError} (Ok x) (Err coord_error.Fault)) new_entry (with_coord v c') fits (new_allowed (not_refused (begin_refusal v.coord timeout) (Ok x) x refl refused)) refl refl
         (inl (subst (λ (c : CoordView). IsTrue c.whole) (sym now) whole.coord)) tied here since others cause (λ x. cc)
     begun_goes no_fault (Err e) c' fits refused now same still tied here since others cause =
         error_goes (begin_refusal v.coord timeout) no_fault (Err e) refused new_entry fits new_allowed c' tied here since others cause e refl same still
@@ -112,9 +114,9 @@ module _ {D : Type 0} (moment : D → ℕ) (image : D → Files → Type 0) (lef
 
     pub added_goes : (no_fault : add_refusal v.coord x p ≡ Some coord_error.Fault → ⊥) (r : Result (Unit {0}) CoordError) (c' : CoordView) → IsCoordEntry add_entry → MatchOption (add_refusal v.coord x p) (MayFail r) (λ y. r ≡ Err y)
         → (add_refusal v.coord x p ≡ None → has_part v.coord x p ≡ true → IsOk r) → (has_part v.coord x p ≡ true → new ≡ old) → OnOk r (c' ≡ with_part v.coord x p)
-        → IfErr r (λ e. (e ≡ coord_error.Fault → ⊥) → c' ≡ v.coord) → IfErr r (λ e. (e ≡ coord_error.Fault → ⊥) → new ≡ old) → (coordinator.IsFrontOf v.coord → coordinator.IsFrontOf c') → Backed StandsIn (image new) c'.content
-        → Since moment image left_since (Appends IsFile StandsIn v.coord.content (coord_batch add_entry)) old new → Elsewhere v.coord.content.key (seen old) (seen new) → CountsFaults v.coord.content.key.part (faults old) (faults new) (part_faults old) (part_faults new) (r ≡ Err coord_error.Fault)
-        → Goes moment image left_since seen faults part_faults (is_fault (added_reply r) ≡ true) v (with_coord v c') old new
+        → IfErr r (λ e. (e ≡ coord_error.Fault → ⊥) → c' ≡ v.coord) → IfErr r (λ e. (e ≡ coord_error.Fault → ⊥) → new ≡ old) → (coordinator.IsFrontOf v.coord → coordinator.IsFrontOf c') → Backed StandsIn (on.image new) c'.content
+        → After on (Appends IsFile StandsIn v.coord.content (coord_batch add_entry)) old new → Elsewhere v.coord.content.key (on.seen old) (on.seen new) → FaultsIn on v.coord.content.key.part old new (r ≡ Err coord_error.Fault)
+        → Goes on (is_fault (added_reply r) ≡ true) v (with_coord v c') old new
     added_goes no_fault (Ok u) c' fits refused repeated idle now same still tied here since others cause = by_part (has_part v.coord x p) refl
       where
         kept : has_part v.coord x p ≡ true → with_part v.coord x p ≡ v.coord
@@ -126,10 +128,10 @@ module _ {D : Type 0} (moment : D → ℕ) (image : D → Files → Type 0) (lef
         none : add_refusal v.coord x p ≡ None
         none = not_refused (add_refusal v.coord x p) (Ok u) u refl refused
 
-        by_part : (b : Bool) → has_part v.coord x p ≡ b → Goes moment image left_since seen faults part_faults (false ≡ true) v (with_coord v c') old new
+        by_part : (b : Bool) → has_part v.coord x p ≡ b → Goes on (false ≡ true) v (with_coord v c') old new
         by_part true has = still_goes (false ≡ true) (λ h. cc) c' (now ∙ kept has) (idle has)
         by_part false has =
-            coord_goes moment image left_since seen faults part_faults v is whole old new backed (false ≡ true) (◌≡◌ {A = Result (Unit {0}) CoordError} (Ok u) (Err coord_error.Fault)) add_entry (with_coord v c') fits (add_allowed none has) refl refl
+            coord_goes on v is whole old new backed (false ≡ true) (◌≡◌ {A = Result (Unit {0}) CoordError} (Ok u) (Err coord_error.Fault)) add_entry (with_coord v c') fits (add_allowed none has) refl refl
             (inl (subst (λ (c : CoordView). IsTrue c.whole) (sym (now ∙ grown has)) whole.coord)) tied here since others cause (λ h. cc)
     added_goes no_fault (Err e) c' fits refused repeated idle now same still tied here since others cause =
         error_goes (add_refusal v.coord x p) no_fault (Err e) refused add_entry fits allowed c' tied here since others cause e refl same still

@@ -1,6 +1,8 @@
 -- How an engine goes on where a transaction is closed.
 use Rattle.std.proofs.Common.{◌≡◌, ◌⊎◌, inl, inr, ℕ, ◌+◌, ◌-◌, ◌<◌, ◌≤◌, Bool, true, false, List, length, Option, Some, None, is_some, Result, Ok, Err, IsOk, IsErr, OnOk, OnErr, IsTrue, refl, sym, ap, ◌∙◌, subst, arith, unwrap_or}
 use Rattle.std.proofs.Math.ListN.{get_or}
+use Rattle.txn_base.specs.declared.disk.Disk.{Ghosts}
+use Rattle.txn_base.specs.Moves.{After, FailsIn}
 use Rattle.txn_base.specs.declared.core_entry.CoreEntry.{CoreEntry}
 use Rattle.txn_base.specs.declared.entry.CoordEntry.{CoordEntry}
 use Rattle.txn_base.specs.declared.failed.Failed.{Failed}
@@ -10,7 +12,7 @@ use Rattle.txn_base.specs.declared.txn.Decision.{Decision}
 use Rattle.txn_base.specs.declared.txn.Decision.TheVariants.{Commit, Abort}
 use Rattle.txn_base.specs.declared.txn.Status.{Status}
 use Rattle.txn_base.specs.Content.{Appends, Backed}
-use Rattle.txn_base.specs.Disk.{Files, Elsewhere, Since, HasPartCause}
+use Rattle.txn_base.specs.Disk.{Elsewhere, HasPartCause}
 use Rattle.txn_base.specs.Outside.{Rose}
 use Rattle.txn_base.specs.Records.{IsTxnId, IsCoordEntry}
 use Rattle.txn_coordinator.specs.Calls.{closing_of_view}
@@ -219,11 +221,11 @@ module _ (v : EngineView) (is : IsEngine v) (w : EngineView) (view : v ≡ w) (w
         let same : world_of v ≡ whole_world v = world_is v is whole tied in
         subst (IsAllowed (in_coord (closing_entry x d))) (sym same) (closing_allowed (whole_world v) x d (subst Lawful same lawful) unclosed decided (stands tied lawful))
 
-    pub close_goes : {D : Type 0} (moment : D → ℕ) (image : D → Files → Type 0) (left_since : D → ℕ → Files → Type 0) (seen : D → Files) (faults : D → ℕ) (part_faults : D → ℕ → ℕ) (old new : D) → IsBacked (image old) w → (coordinator.IsFrontOf v.coord → coordinator.IsFrontOf c') → Backed StandsIn (image new) c'.content
-        → Since moment image left_since (Appends IsFile StandsIn v.coord.content (coord_batch (closing_of_view v.coord x))) old new → Elsewhere v.coord.content.key (seen old) (seen new) → HasPartCause v.coord.content.key.part (faults old) (faults new) (part_faults old) (part_faults new) r
-        → Goes moment image left_since seen faults part_faults (IsErr r) w u old new
-    close_goes moment image left_since seen faults part_faults old new backed tie here since others cause =
-        subst (λ (z : EngineView). Goes moment image left_since seen faults part_faults (IsErr r) z u old new) view
-        (coord_goes moment image left_since seen faults part_faults v is whole old new (subst (IsBacked (image old)) (sym view) backed) (IsErr r) (IsErr r) (closing_entry x d) u (closing_fits x d fits) allowed refl refl whole_after tie here
-        (subst (λ (e : CoordEntry). Since moment image left_since (Appends IsFile StandsIn v.coord.content (coord_batch e)) old new) entry_is since) others
-        (record { later = cause.later; parts_later = cause.parts_later; failed = λ e. from_ok_err r (Rose (faults old) (faults new) × Rose (part_faults old v.coord.content.key.part) (part_faults new v.coord.content.key.part)) e cause.failed; others = cause.others }) (λ h. h))
+    pub close_goes : {D : Type 0} (on : Ghosts D) (old new : D) → IsBacked (on.image old) w → (coordinator.IsFrontOf v.coord → coordinator.IsFrontOf c') → Backed StandsIn (on.image new) c'.content
+        → After on (Appends IsFile StandsIn v.coord.content (coord_batch (closing_of_view v.coord x))) old new → Elsewhere v.coord.content.key (on.seen old) (on.seen new) → FailsIn on v.coord.content.key.part old new r
+        → Goes on (IsErr r) w u old new
+    close_goes on old new backed tie here since others cause =
+        subst (λ (z : EngineView). Goes on (IsErr r) z u old new) view
+        (coord_goes on v is whole old new (subst (IsBacked (on.image old)) (sym view) backed) (IsErr r) (IsErr r) (closing_entry x d) u (closing_fits x d fits) allowed refl refl whole_after tie here
+        (subst (λ (e : CoordEntry). After on (Appends IsFile StandsIn v.coord.content (coord_batch e)) old new) entry_is since) others
+        (record { later = cause.later; parts_later = cause.parts_later; failed = λ e. from_ok_err r (Rose (on.faults old) (on.faults new) × Rose (on.part_faults old v.coord.content.key.part) (on.part_faults new v.coord.content.key.part)) e cause.failed; others = cause.others }) (λ h. h))

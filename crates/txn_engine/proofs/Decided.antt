@@ -2,6 +2,8 @@
 use Rattle.std.proofs.Common.{◌≡◌, ◌⊎◌, inl, inr, ℕ, ◌+◌, ◌==◌, ◌||◌, Bool, true, false, if◌then◌else◌, List, [], ◌∷◌, ◌++◌, length, Option, Some, None, Result, Ok, Err, IfErr, OnOk, IsOk, MatchOption, IsTrue, option_map, refl, sym, ap, ◌∙◌, subst, arith}
 use Rattle.std.specs.Option.{option_or}
 use Rattle.std.proofs.lemmas.Bool.Decides.{nat_tests}
+use Rattle.txn_base.specs.declared.disk.Disk.{Ghosts}
+use Rattle.txn_base.specs.Moves.{After, FaultsIn}
 use Rattle.txn_base.specs.declared.core_entry.CoreEntry.{CoreEntry}
 use Rattle.txn_base.specs.declared.entry.CoordEntry.{CoordEntry}
 use Rattle.txn_base.specs.declared.limits.Limits.{Limits}
@@ -15,7 +17,7 @@ use Rattle.txn_base.specs.declared.txn.Decision.TheVariants.{Commit, Abort}
 use Rattle.txn_base.specs.declared.txn.Status.{Status}
 use Rattle.txn_base.specs.declared.txn.Status.TheVariants.{Open, Committing, Committed, Aborting, Aborted}
 use Rattle.txn_base.specs.Content.{Backed, Appends}
-use Rattle.txn_base.specs.Disk.{Files, Elsewhere, Since, CountsFaults}
+use Rattle.txn_base.specs.Disk.{Elsewhere, CountsFaults}
 use Rattle.txn_base.specs.Records.{IsTxnId, IsCoordEntry}
 use Rattle.txn_coordinator.specs.declared.error.CoordError.{CoordError}
 use Rattle.txn_coordinator.specs.declared.error.CoordError.TheVariants as coord_error
@@ -332,9 +334,9 @@ module _ (v : EngineView) (is : IsEngine v) (whole : IsWhole v) (x : TxnId) (d :
 
   -- ---- How it goes on.
 
-  module _ {D : Type 0} (moment : D → ℕ) (image : D → Files → Type 0) (left_since : D → ℕ → Files → Type 0) (seen : D → Files) (faults : D → ℕ) (part_faults : D → ℕ → ℕ) (old new : D) (backed : IsBacked (image old) v)
-      (idle : is_open (status_in_view v.coord x) ≡ false → new ≡ old) (unwritten : IfErr result (λ e. (e ≡ coord_error.Fault → ⊥) → new ≡ old)) (tie : coordinator.IsFrontOf v.coord → coordinator.IsFrontOf c') (here : Backed StandsIn (image new) c'.content)
-      (since : Since moment image left_since (Appends IsFile StandsIn v.coord.content (coord_batch (decision_entry x d))) old new) (others : Elsewhere v.coord.content.key (seen old) (seen new)) (cause : CountsFaults v.coord.content.key.part (faults old) (faults new) (part_faults old) (part_faults new) (result ≡ Err coord_error.Fault)) where
+  module _ {D : Type 0} (on : Ghosts D) (old new : D) (backed : IsBacked (on.image old) v)
+      (idle : is_open (status_in_view v.coord x) ≡ false → new ≡ old) (unwritten : IfErr result (λ e. (e ≡ coord_error.Fault → ⊥) → new ≡ old)) (tie : coordinator.IsFrontOf v.coord → coordinator.IsFrontOf c') (here : Backed StandsIn (on.image new) c'.content)
+      (since : After on (Appends IsFile StandsIn v.coord.content (coord_batch (decision_entry x d))) old new) (others : Elsewhere v.coord.content.key (on.seen old) (on.seen new)) (cause : FaultsIn on v.coord.content.key.part old new (result ≡ Err coord_error.Fault)) where
     allowed_open : is_open (status_in_view v.coord x) ≡ true → IsTied v → Lawful (world_of v) → IsAllowed (in_coord (decision_entry x d)) (world_of v)
     allowed_open still_open tied lawful =
         let same_world : world_of v ≡ whole_world v = world_is v is whole tied in
@@ -345,23 +347,23 @@ module _ (v : EngineView) (is : IsEngine v) (whole : IsWhole v) (x : TxnId) (d :
     open_by e is_err none true still_open = still_open
     open_by e is_err none false shut = absurd (err_not_ok result e is_err (repeated none shut))
 
-    pub decided_ok_goes : (s : Status) → result ≡ Ok s → c' ≡ decided v.coord x d → Goes moment image left_since seen faults part_faults (result ≡ Err coord_error.Fault) v u old new
+    pub decided_ok_goes : (s : Status) → result ≡ Ok s → c' ≡ decided v.coord x d → Goes on (result ≡ Err coord_error.Fault) v u old new
     decided_ok_goes s is_ok e = by_test (is_open (status_in_view v.coord x)) refl
       where
         never : result ≡ Err coord_error.Fault → ⊥
         never h = ok_not_err result s coord_error.Fault is_ok h
 
-        by_test : (b : Bool) → is_open (status_in_view v.coord x) ≡ b → Goes moment image left_since seen faults part_faults (result ≡ Err coord_error.Fault) v u old new
+        by_test : (b : Bool) → is_open (status_in_view v.coord x) ≡ b → Goes on (result ≡ Err coord_error.Fault) v u old new
         by_test true still_open =
-            coord_goes moment image left_since seen faults part_faults v is whole old new backed (result ≡ Err coord_error.Fault) (result ≡ Err coord_error.Fault) (decision_entry x d) u (decision_fits x d fits) (allowed_open still_open) refl refl
+            coord_goes on v is whole old new backed (result ≡ Err coord_error.Fault) (result ≡ Err coord_error.Fault) (decision_entry x d) u (decision_fits x d fits) (allowed_open still_open) refl refl
             (inl (decided_whole s is_ok e).coord) tie here since others cause (λ h. h)
-        by_test false shut = still_goes moment image left_since seen faults part_faults v is whole old new backed (result ≡ Err coord_error.Fault) never c' (e ∙ decided_shut v.coord x d shut) (idle shut)
+        by_test false shut = still_goes on v is whole old new backed (result ≡ Err coord_error.Fault) never c' (e ∙ decided_shut v.coord x d shut) (idle shut)
 
-    pub decided_err_goes : (e : CoordError) → result ≡ Err e → ((e ≡ coord_error.Fault → ⊥) → c' ≡ v.coord) → ((e ≡ coord_error.Fault → ⊥) → new ≡ old) → Goes moment image left_since seen faults part_faults (result ≡ Err coord_error.Fault) v u old new
+    pub decided_err_goes : (e : CoordError) → result ≡ Err e → ((e ≡ coord_error.Fault → ⊥) → c' ≡ v.coord) → ((e ≡ coord_error.Fault → ⊥) → new ≡ old) → Goes on (result ≡ Err coord_error.Fault) v u old new
     decided_err_goes e is_err still quiet =
-        goes_like moment image left_since seen faults part_faults (is_fault (reply.No (coord_refusal e)) ≡ true) (result ≡ Err coord_error.Fault) v u old new
+        goes_like on (is_fault (reply.No (coord_refusal e)) ≡ true) (result ≡ Err coord_error.Fault) v u old new
         (λ h. is_err ∙ ap (λ y. Err y) (fault_refusal e h)) (λ h. subst (λ (y : CoordError). is_fault (reply.No (coord_refusal y)) ≡ true) (sym (same_err result e coord_error.Fault is_err h)) refl)
-        (error_goes moment image left_since seen faults part_faults v is whole old new backed (decide_refusal v.coord x d) (no_fault_decide (status_of (coord_skeletons v.coord.front) x) d) result refused (decision_entry x d) (decision_fits x d fits)
+        (error_goes on v is whole old new backed (decide_refusal v.coord x d) (no_fault_decide (status_of (coord_skeletons v.coord.front) x) d) result refused (decision_entry x d) (decision_fits x d fits)
         (λ none. allowed_open (open_by e is_err none (is_open (status_in_view v.coord x)) refl)) c' tie here since others cause e is_err still quiet)
 
 -- ---- The clauses, over an equal view.
@@ -420,16 +422,16 @@ module _ (v : EngineView) (is : IsEngine v) (w : EngineView) (view : v ≡ w) (w
         (λ e is_err m. subst (λ (z : EngineView). MayTell f g fs gs z (end_of d x) m (reply.No (coord_refusal e)) (with_coord v c')) view
         (refused_told v is whole_here x d fits result c' refused repeated now fault same own_here tied_here f g fs gs m e is_err (still e is_err) cause))
 
-  module _ {D : Type 0} (moment : D → ℕ) (image : D → Files → Type 0) (left_since : D → ℕ → Files → Type 0) (seen : D → Files) (faults : D → ℕ) (part_faults : D → ℕ → ℕ) (old new : D) (backed' : IsBacked (image old) w) where
-    pub goes_clause : (idle : is_open (status_in_view v.coord x) ≡ false → new ≡ old) (unwritten : IfErr result (λ e. (e ≡ coord_error.Fault → ⊥) → new ≡ old)) (tie : coordinator.IsFrontOf v.coord → coordinator.IsFrontOf c') (here : Backed StandsIn (image new) c'.content)
-        (since : Since moment image left_since (Appends IsFile StandsIn v.coord.content (coord_batch (decision_entry x d))) old new) (others : Elsewhere v.coord.content.key (seen old) (seen new)) (cause : CountsFaults v.coord.content.key.part (faults old) (faults new) (part_faults old) (part_faults new) (result ≡ Err coord_error.Fault))
-        → Goes moment image left_since seen faults part_faults (result ≡ Err coord_error.Fault) w (with_coord v c') old new
+  module _ {D : Type 0} (on : Ghosts D) (old new : D) (backed' : IsBacked (on.image old) w) where
+    pub goes_clause : (idle : is_open (status_in_view v.coord x) ≡ false → new ≡ old) (unwritten : IfErr result (λ e. (e ≡ coord_error.Fault → ⊥) → new ≡ old)) (tie : coordinator.IsFrontOf v.coord → coordinator.IsFrontOf c') (here : Backed StandsIn (on.image new) c'.content)
+        (since : After on (Appends IsFile StandsIn v.coord.content (coord_batch (decision_entry x d))) old new) (others : Elsewhere v.coord.content.key (on.seen old) (on.seen new)) (cause : FaultsIn on v.coord.content.key.part old new (result ≡ Err coord_error.Fault))
+        → Goes on (result ≡ Err coord_error.Fault) w (with_coord v c') old new
     goes_clause idle unwritten tie here since others cause =
-        let backed : IsBacked (image old) v = subst (IsBacked (image old)) (sym view) backed' in
-        subst (λ (z : EngineView). Goes moment image left_since seen faults part_faults (result ≡ Err coord_error.Fault) z (with_coord v c') old new) view
-        (by_result result (Goes moment image left_since seen faults part_faults (result ≡ Err coord_error.Fault) v (with_coord v c') old new)
-        (λ s is_ok. decided_ok_goes v is whole_here x d fits result c' refused repeated now fault same moment image left_since seen faults part_faults old new backed idle unwritten tie here since others cause s is_ok (grown s is_ok))
-        (λ e is_err. decided_err_goes v is whole_here x d fits result c' refused repeated now fault same moment image left_since seen faults part_faults old new backed idle unwritten tie here since others cause e is_err (still e is_err)
+        let backed : IsBacked (on.image old) v = subst (IsBacked (on.image old)) (sym view) backed' in
+        subst (λ (z : EngineView). Goes on (result ≡ Err coord_error.Fault) z (with_coord v c') old new) view
+        (by_result result (Goes on (result ≡ Err coord_error.Fault) v (with_coord v c') old new)
+        (λ s is_ok. decided_ok_goes v is whole_here x d fits result c' refused repeated now fault same on old new backed idle unwritten tie here since others cause s is_ok (grown s is_ok))
+        (λ e is_err. decided_err_goes v is whole_here x d fits result c' refused repeated now fault same on old new backed idle unwritten tie here since others cause e is_err (still e is_err)
         (from_err result (λ e. (e ≡ coord_error.Fault → ⊥) → new ≡ old) e is_err unwritten)))
 
 -- ---- A transaction of another coordinator.

@@ -1,5 +1,6 @@
 -- What an engine tells of an end, and how it goes on through one.
 use Rattle.std.proofs.Common.{◌≡◌, inl, inr, ℕ, ◌==◌, true, false, List, [], ◌∷◌, Some, Result, Err, refl, sym, ap, ◌∙◌, subst}
+use Rattle.txn_base.specs.declared.disk.Disk.{Ghosts}
 use Rattle.txn_base.specs.declared.limits.Limits.{Limits}
 use Rattle.txn_base.specs.declared.reply.Outcome.{Outcome}
 use Rattle.txn_base.specs.declared.reply.Refusal.{Refusal}
@@ -10,7 +11,6 @@ use Rattle.txn_base.specs.declared.txn.TxnId.{TxnId}
 use Rattle.txn_base.specs.declared.txn.Decision.{Decision}
 use Rattle.txn_base.specs.declared.txn.Decision.TheVariants.{Commit, Abort}
 use Rattle.txn_base.specs.declared.txn.Status.{Status}
-use Rattle.txn_base.specs.Disk.{Files}
 use Rattle.txn_coordinator.specs.declared.error.CoordError.{CoordError}
 use Rattle.txn_coordinator.specs.declared.error.CoordError.TheVariants as coord_error
 use Rattle.txn_model.specs.declared.world.World.{World}
@@ -80,11 +80,11 @@ module _ (f g : ℕ) (fs gs : ℕ → ℕ) (v : EngineView) (x : TxnId) (d : Dec
 
 -- ---- A refusal of the coordinator.
 
-module _ {D : Type 0} (moment : D → ℕ) (image : D → Files → Type 0) (left_since : D → ℕ → Files → Type 0) (seen : D → Files) (faults : D → ℕ) (part_faults : D → ℕ → ℕ) where
-  pub refused_goes : (r : Result Status CoordError) (e : CoordError) → r ≡ Err e → (row : Refusal) → row ≡ coord_refusal e → (v w : EngineView) (old new : D) → Goes moment image left_since seen faults part_faults (r ≡ Err coord_error.Fault) v w old new
-      → Goes moment image left_since seen faults part_faults (is_fault (reply.No row) ≡ true) v w old new
+module _ {D : Type 0} (on : Ghosts D) where
+  pub refused_goes : (r : Result Status CoordError) (e : CoordError) → r ≡ Err e → (row : Refusal) → row ≡ coord_refusal e → (v w : EngineView) (old new : D) → Goes on (r ≡ Err coord_error.Fault) v w old new
+      → Goes on (is_fault (reply.No row) ≡ true) v w old new
   refused_goes r e is_err row is v w old new goes =
-      goes_like moment image left_since seen faults part_faults (r ≡ Err coord_error.Fault) (is_fault (reply.No row) ≡ true) v w old new
+      goes_like on (r ≡ Err coord_error.Fault) (is_fault (reply.No row) ≡ true) v w old new
       (λ h. ap (λ (y : Refusal). is_fault (reply.No y)) (is ∙ ap coord_refusal (same r e coord_error.Fault is_err h)))
       (λ h. is_err ∙ ap (λ y. Err y) (fault_refusal e (ap (λ (y : Refusal). is_fault (reply.No y)) (sym is) ∙ h))) goes
     where

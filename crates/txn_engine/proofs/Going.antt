@@ -2,12 +2,14 @@
 use Rattle.std.proofs.Common.{◌≡◌, ◌⊎◌, ⊎_elim, inl, inr, ℕ, zero, suc, ◌+◌, ◌<◌, ◌≤◌, List, [], ◌∷◌, length, All, IsTrue, refl, sym, ap, ◌∙◌, subst, arith}
 use Rattle.std.proofs.Math.ListN.{get_or}
 use Rattle.std.proofs.lemmas.List.Elements.{All-head, All-tail, All-cons, All-nil}
+use Rattle.txn_base.specs.declared.disk.Disk.{Ghosts}
+use Rattle.txn_base.specs.Moves.{After, FaultsIn}
 use Rattle.txn_base.specs.declared.entry.CoordEntry.{CoordEntry}
 use Rattle.txn_base.specs.declared.entry.TopicEntry.{TopicEntry}
 use Rattle.txn_base.specs.declared.file_id.FileId.{FileId}
 use Rattle.txn_base.specs.declared.limits.Limits.{Limits}
 use Rattle.txn_base.specs.Content.{LedgerContent, KeptOrNot, Appends, Backed}
-use Rattle.txn_base.specs.Disk.{Files, Elsewhere, Since, CountsFaults}
+use Rattle.txn_base.specs.Disk.{Files, Elsewhere, CountsFaults}
 use Rattle.txn_base.specs.Frames.{Batch as FrameBatch, records, Stands}
 use Rattle.txn_base.specs.Outside.{Rose}
 use Rattle.txn_base.specs.Records.{IsCoordEntry}
@@ -25,7 +27,7 @@ use Rattle.txn_engine.specs.Above.{StandsAbove, KeepsAbove, KeepsAboveIf}
 use Rattle.txn_engine.specs.Files.{OnlyLedgers}
 use Rattle.txn_engine.specs.Kept.{AreTopics, IsEngine}
 use Rattle.txn_engine.specs.Table.{world_of}
-use Rattle.txn_engine.specs.Told.{CountsWithin, Goes}
+use Rattle.txn_engine.specs.Told.{CountsWithin, Goes, FaultsWithin}
 use Rattle.txn_engine.specs.View.{EngineView, IsWhole, IsTied, IsBacked, replaced}
 use Rattle.txn_engine.proofs.Above.{coord_above, topic_above}
 use Rattle.txn_engine.proofs.Files.{only_one, only_then, images_append, images_then}
@@ -64,10 +66,10 @@ counts_then n f g h fs gs hs X Y one two = record {
 pub files_apart : (p q : ℕ) → (p ≡ q → ⊥) → ledger_file p ≡ ledger_file q → ⊥
 files_apart p q ne e = ne (ap (λ (f : FileId). f.part) e)
 
-module _ {D : Type 0} (moment : D → ℕ) (image : D → Files → Type 0) (left_since : D → ℕ → Files → Type 0) where
+module _ {D : Type 0} (on : Ghosts D) where
   -- a ledger whose file a call leaves
-  module _ (old new : D) (content : LedgerContent) (batch : FrameBatch) (since : Since moment image left_since (Appends IsFile StandsIn content batch) old new) where
-    still_backed : (k : LedgerContent) → (k.key ≡ content.key → ⊥) → Backed StandsIn (image old) k → Backed StandsIn (image new) k
+  module _ (old new : D) (content : LedgerContent) (batch : FrameBatch) (since : After on (Appends IsFile StandsIn content batch) old new) where
+    still_backed : (k : LedgerContent) → (k.key ≡ content.key → ⊥) → Backed StandsIn (on.image old) k → Backed StandsIn (on.image new) k
     still_backed k apart backed = record {
       each = λ c at.
           let from = since.at_end c at in
@@ -75,34 +77,34 @@ module _ {D : Type 0} (moment : D → ℕ) (image : D → Files → Type 0) (lef
     }
 
     -- topics from part k on, where the file is that of a part before
-    pub topics_still_backed : (limits : Limits) (p k : ℕ) (ts : List TopicView) → content.key ≡ ledger_file p → p < k → AreTopics limits k ts → All (λ t. Backed StandsIn (image old) t.content) ts → All (λ t. Backed StandsIn (image new) t.content) ts
-    topics_still_backed limits p k [] key past are backed = All-nil (λ t. Backed StandsIn (image new) t.content)
+    pub topics_still_backed : (limits : Limits) (p k : ℕ) (ts : List TopicView) → content.key ≡ ledger_file p → p < k → AreTopics limits k ts → All (λ t. Backed StandsIn (on.image old) t.content) ts → All (λ t. Backed StandsIn (on.image new) t.content) ts
+    topics_still_backed limits p k [] key past are backed = All-nil (λ t. Backed StandsIn (on.image new) t.content)
     topics_still_backed limits p k (t ∷ ts) key past are backed =
-        let first : Backed StandsIn (image new) t.content =
-        still_backed t.content (λ same. files_apart k p (λ e. never k p past e) (sym are.0.key ∙ same ∙ key)) (All-head (λ t. Backed StandsIn (image old) t.content) t ts backed) in
-        All-cons (λ t. Backed StandsIn (image new) t.content) t ts first
-        (topics_still_backed limits p (suc k) ts key (omega (arith, past)) are.1 (All-tail (λ t. Backed StandsIn (image old) t.content) t ts backed))
+        let first : Backed StandsIn (on.image new) t.content =
+        still_backed t.content (λ same. files_apart k p (λ e. never k p past e) (sym are.0.key ∙ same ∙ key)) (All-head (λ t. Backed StandsIn (on.image old) t.content) t ts backed) in
+        All-cons (λ t. Backed StandsIn (on.image new) t.content) t ts first
+        (topics_still_backed limits p (suc k) ts key (omega (arith, past)) are.1 (All-tail (λ t. Backed StandsIn (on.image old) t.content) t ts backed))
       where
         never : (k p : ℕ) → p < k → k ≡ p → ⊥
         never k p past e = omega (arith, past, e)
 
     -- topics from part k on, where the file is that of the one at this index
-    pub topics_backed_but : (limits : Limits) (p k j : ℕ) (ts : List TopicView) (t : TopicView) → content.key ≡ ledger_file p → p ≡ k + j → Backed StandsIn (image new) t.content → AreTopics limits k ts → All (λ t. Backed StandsIn (image old) t.content) ts
-        → All (λ t. Backed StandsIn (image new) t.content) (replaced ts j t)
-    topics_backed_but limits p k j [] t key is here are backed = All-nil (λ t. Backed StandsIn (image new) t.content)
+    pub topics_backed_but : (limits : Limits) (p k j : ℕ) (ts : List TopicView) (t : TopicView) → content.key ≡ ledger_file p → p ≡ k + j → Backed StandsIn (on.image new) t.content → AreTopics limits k ts → All (λ t. Backed StandsIn (on.image old) t.content) ts
+        → All (λ t. Backed StandsIn (on.image new) t.content) (replaced ts j t)
+    topics_backed_but limits p k j [] t key is here are backed = All-nil (λ t. Backed StandsIn (on.image new) t.content)
     topics_backed_but limits p k zero (u ∷ us) t key is here are backed =
-        All-cons (λ t. Backed StandsIn (image new) t.content) t us here (topics_still_backed limits p (suc k) us key (omega (arith, is)) are.1 (All-tail (λ t. Backed StandsIn (image old) t.content) u us backed))
+        All-cons (λ t. Backed StandsIn (on.image new) t.content) t us here (topics_still_backed limits p (suc k) us key (omega (arith, is)) are.1 (All-tail (λ t. Backed StandsIn (on.image old) t.content) u us backed))
     topics_backed_but limits p k (suc j) (u ∷ us) t key is here are backed =
-        let first : Backed StandsIn (image new) u.content =
-        still_backed u.content (λ same. files_apart k p (λ e. never k p j is e) (sym are.0.key ∙ same ∙ key)) (All-head (λ t. Backed StandsIn (image old) t.content) u us backed) in
-        All-cons (λ t. Backed StandsIn (image new) t.content) u (replaced us j t) first
-        (topics_backed_but limits p (suc k) j us t key (omega (arith, is)) here are.1 (All-tail (λ t. Backed StandsIn (image old) t.content) u us backed))
+        let first : Backed StandsIn (on.image new) u.content =
+        still_backed u.content (λ same. files_apart k p (λ e. never k p j is e) (sym are.0.key ∙ same ∙ key)) (All-head (λ t. Backed StandsIn (on.image old) t.content) u us backed) in
+        All-cons (λ t. Backed StandsIn (on.image new) t.content) u (replaced us j t) first
+        (topics_backed_but limits p (suc k) j us t key (omega (arith, is)) here are.1 (All-tail (λ t. Backed StandsIn (on.image old) t.content) u us backed))
       where
         never : (k p j : ℕ) → p ≡ k + suc j → k ≡ p → ⊥
         never k p j is e = omega (arith, is, e)
 
     -- the coordinator, where the file is a topic's
-    pub coord_still_backed : (p : ℕ) (k : LedgerContent) → content.key ≡ ledger_file p → 1 ≤ p → k.key ≡ ledger_file 0 → Backed StandsIn (image old) k → Backed StandsIn (image new) k
+    pub coord_still_backed : (p : ℕ) (k : LedgerContent) → content.key ≡ ledger_file p → 1 ≤ p → k.key ≡ ledger_file 0 → Backed StandsIn (on.image old) k → Backed StandsIn (on.image new) k
     coord_still_backed p k key some own backed = still_backed k (λ same. files_apart 0 p (λ e. never p some e) (sym own ∙ same ∙ key)) backed
       where
         never : (p : ℕ) → 1 ≤ p → 0 ≡ p → ⊥
@@ -110,25 +112,25 @@ module _ {D : Type 0} (moment : D → ℕ) (image : D → Files → Type 0) (lef
 
   -- ---- Going on.
 
-  module _ (seen : D → Files) (faults : D → ℕ) (part_faults : D → ℕ → ℕ) where
+  module _ where
     -- nothing happened to a part, or to the disk
-    pub goes_still : (X : Type 0) → (X → ⊥) → (v v' : EngineView) (disk : D) → IsWhole v → IsBacked (image disk) v → v'.names ≡ v.names → v'.coord ≡ v.coord → v'.topics ≡ v.topics → Goes moment image left_since seen faults part_faults X v v' disk disk
+    pub goes_still : (X : Type 0) → (X → ⊥) → (v v' : EngineView) (disk : D) → IsWhole v → IsBacked (on.image disk) v → v'.names ≡ v.names → v'.coord ≡ v.coord → v'.topics ≡ v.topics → Goes on X v v' disk disk
     goes_still X none v v' disk whole backed names coord topics = record {
       names = names;
       whole = inl (record { coord = subst (λ (c : CoordView). IsTrue c.whole) (sym coord) whole.coord; topics = subst (λ (ts : List TopicView). All (λ t. IsTrue t.whole) ts) (sym topics) whole.topics });
       tied = λ tied. record { coord = subst coordinator.IsFrontOf (sym coord) tied.coord; topics = subst (All topic.IsFrontOf) (sym topics) tied.topics };
       backed = record {
-        coord = subst (λ (c : CoordView). Backed StandsIn (image disk) c.content) (sym coord) backed.coord;
-        topics = subst (λ (ts : List TopicView). All (λ t. Backed StandsIn (image disk) t.content) ts) (sym topics) backed.topics;
+        coord = subst (λ (c : CoordView). Backed StandsIn (on.image disk) c.content) (sym coord) backed.coord;
+        topics = subst (λ (ts : List TopicView). All (λ t. Backed StandsIn (on.image disk) t.content) ts) (sym topics) backed.topics;
       };
-      images = started moment image left_since disk (KeepsAboveIf (IsTied v) v.names) (λ c at tied floor above. above);
-      elsewhere = started moment image left_since disk (OnlyLedgers (length v.names)) (λ c at file apart. refl);
+      images = started on disk (KeepsAboveIf (IsTied v) v.names) (λ c at tied floor above. above);
+      elsewhere = started on disk (OnlyLedgers (length v.names)) (λ c at file apart. refl);
       others = λ file apart. refl;
-      cause = counts_still (length v.names) (faults disk) (part_faults disk) X none;
+      cause = counts_still (length v.names) (on.faults disk) (on.part_faults disk) X none;
     }
 
     -- the same from a view with the same parts
-    pub goes_from : (X : Type 0) (u v v' : EngineView) (old new : D) → v.names ≡ u.names → v.coord ≡ u.coord → v.topics ≡ u.topics → Goes moment image left_since seen faults part_faults X v v' old new → Goes moment image left_since seen faults part_faults X u v' old new
+    pub goes_from : (X : Type 0) (u v v' : EngineView) (old new : D) → v.names ≡ u.names → v.coord ≡ u.coord → v.topics ≡ u.topics → Goes on X v v' old new → Goes on X u v' old new
     goes_from X u v v' old new names coord topics goes =
         let tied : IsTied u → IsTied v =
         λ was. record { coord = subst coordinator.IsFrontOf (sym coord) was.coord; topics = subst (All topic.IsFrontOf) (sym topics) was.topics } in
@@ -137,15 +139,15 @@ module _ {D : Type 0} (moment : D → ℕ) (image : D → Files → Type 0) (lef
           whole = goes.whole;
           tied = λ was. goes.tied (tied was);
           backed = goes.backed;
-          images = weaker moment image left_since (KeepsAboveIf (IsTied v) v.names) (KeepsAboveIf (IsTied u) u.names) old new
+          images = weaker on (KeepsAboveIf (IsTied v) v.names) (KeepsAboveIf (IsTied u) u.names) old new
               (λ d c at keeps was. subst (λ (ns : List (List ℕ)). KeepsAbove ns d c) names (keeps (tied was))) goes.images;
-          elsewhere = subst (λ (ns : List (List ℕ)). Since moment image left_since (OnlyLedgers (length ns)) old new) names goes.elsewhere;
-          others = subst (λ (ns : List (List ℕ)). OnlyLedgers (length ns) (seen old) (seen new)) names goes.others;
-          cause = subst (λ (ns : List (List ℕ)). CountsWithin (length ns) (faults old) (faults new) (part_faults old) (part_faults new) X) names goes.cause;
+          elsewhere = subst (λ (ns : List (List ℕ)). After on (OnlyLedgers (length ns)) old new) names goes.elsewhere;
+          others = subst (λ (ns : List (List ℕ)). OnlyLedgers (length ns) (on.seen old) (on.seen new)) names goes.others;
+          cause = subst (λ (ns : List (List ℕ)). FaultsWithin on (length ns) old new X) names goes.cause;
         }
 
     -- by a word that means the same
-    pub goes_like : (X Y : Type 0) (v v' : EngineView) (old new : D) → (X → Y) → (Y → X) → Goes moment image left_since seen faults part_faults X v v' old new → Goes moment image left_since seen faults part_faults Y v v' old new
+    pub goes_like : (X Y : Type 0) (v v' : EngineView) (old new : D) → (X → Y) → (Y → X) → Goes on X v v' old new → Goes on Y v v' old new
     goes_like X Y v v' old new to from goes = record {
       names = goes.names;
       whole = ⊎_elim (λ yes. inl yes) (λ x. inr (to x)) goes.whole;
@@ -158,42 +160,42 @@ module _ {D : Type 0} (moment : D → ℕ) (image : D → Files → Type 0) (lef
     }
 
     -- one call after another, the first of which met no fault
-    pub goes_then : (X Y : Type 0) (u v w : EngineView) (old mid new : D) → Goes moment image left_since seen faults part_faults X u v old mid → Goes moment image left_since seen faults part_faults Y v w mid new → Goes moment image left_since seen faults part_faults Y u w old new
+    pub goes_then : (X Y : Type 0) (u v w : EngineView) (old mid new : D) → Goes on X u v old mid → Goes on Y v w mid new → Goes on Y u w old new
     goes_then X Y u v w old mid new one two = record {
       names = two.names ∙ one.names;
       whole = two.whole;
       tied = λ was. two.tied (one.tied was);
       backed = two.backed;
-      images = goes_on moment image left_since (KeepsAboveIf (IsTied u) u.names) (KeepsAboveIf (IsTied v) v.names) (KeepsAboveIf (IsTied u) u.names) old mid new one.images two.images
+      images = goes_on on (KeepsAboveIf (IsTied u) u.names) (KeepsAboveIf (IsTied v) v.names) (KeepsAboveIf (IsTied u) u.names) old mid new one.images two.images
           (λ d c at keeps. keeps)
           (λ d e c at keeps mid_at more was floor above.
           subst (λ (ns : List (List ℕ)). StandsAbove ns floor c) one.names (more (one.tied was) floor (subst (λ (ns : List (List ℕ)). StandsAbove ns floor e) (sym one.names) (keeps was floor above))));
-      elsewhere = images_then moment image left_since (length u.names) old mid new one.elsewhere
-          (subst (λ (ns : List (List ℕ)). Since moment image left_since (OnlyLedgers (length ns)) mid new) one.names two.elsewhere);
-      others = only_then (length u.names) (seen old) (seen mid) (seen new) one.others (subst (λ (ns : List (List ℕ)). OnlyLedgers (length ns) (seen mid) (seen new)) one.names two.others);
-      cause = counts_then (length u.names) (faults old) (faults mid) (faults new) (part_faults old) (part_faults mid) (part_faults new) X Y one.cause
-          (subst (λ (ns : List (List ℕ)). CountsWithin (length ns) (faults mid) (faults new) (part_faults mid) (part_faults new) Y) one.names two.cause);
+      elsewhere = images_then on (length u.names) old mid new one.elsewhere
+          (subst (λ (ns : List (List ℕ)). After on (OnlyLedgers (length ns)) mid new) one.names two.elsewhere);
+      others = only_then (length u.names) (on.seen old) (on.seen mid) (on.seen new) one.others (subst (λ (ns : List (List ℕ)). OnlyLedgers (length ns) (on.seen mid) (on.seen new)) one.names two.others);
+      cause = counts_then (length u.names) (on.faults old) (on.faults mid) (on.faults new) (on.part_faults old) (on.part_faults mid) (on.part_faults new) X Y one.cause
+          (subst (λ (ns : List (List ℕ)). FaultsWithin on (length ns) mid new Y) one.names two.cause);
     }
 
-    module _ (v : EngineView) (is : IsEngine v) (whole : IsWhole v) (old new : D) (backed : IsBacked (image old) v) where
+    module _ (v : EngineView) (is : IsEngine v) (whole : IsWhole v) (old new : D) (backed : IsBacked (on.image old) v) where
       -- an entry of the coordinator
       pub coord_goes : (X Y : Type 0) (e : CoordEntry) (v' : EngineView) → IsCoordEntry e → (IsTied v → Lawful (world_of v) → IsAllowed (in_coord e) (world_of v)) → v'.names ≡ v.names → v'.topics ≡ v.topics → IsTrue v'.coord.whole ⊎ X
-          → (coordinator.IsFrontOf v.coord → coordinator.IsFrontOf v'.coord) → Backed StandsIn (image new) v'.coord.content → Since moment image left_since (Appends IsFile StandsIn v.coord.content (coord_batch e)) old new → Elsewhere v.coord.content.key (seen old) (seen new)
-          → CountsFaults v.coord.content.key.part (faults old) (faults new) (part_faults old) (part_faults new) Y → (X → Y) → Goes moment image left_since seen faults part_faults X v v' old new
+          → (coordinator.IsFrontOf v.coord → coordinator.IsFrontOf v'.coord) → Backed StandsIn (on.image new) v'.coord.content → After on (Appends IsFile StandsIn v.coord.content (coord_batch e)) old new → Elsewhere v.coord.content.key (on.seen old) (on.seen new)
+          → FaultsIn on v.coord.content.key.part old new Y → (X → Y) → Goes on X v v' old new
       coord_goes X Y e v' fits allowed names topics now tied coord_backed since others cause means = record {
         names = names;
         whole = ⊎_elim (λ yes. inl (record { coord = yes; topics = subst (λ (ts : List TopicView). All (λ t. IsTrue t.whole) ts) (sym topics) whole.topics })) (λ x. inr x) now;
         tied = λ was. record { coord = tied was.coord; topics = subst (All topic.IsFrontOf) (sym topics) was.topics };
         backed = record {
           coord = coord_backed;
-          topics = subst (λ (ts : List TopicView). All (λ t. Backed StandsIn (image new) t.content) ts) (sym topics)
+          topics = subst (λ (ts : List TopicView). All (λ t. Backed StandsIn (on.image new) t.content) ts) (sym topics)
               (topics_still_backed old new v.coord.content (coord_batch e) since v.limits 0 1 v.topics is.coord.key (omega arith) is.topics backed.topics);
         };
-        images = weaker moment image left_since (Appends IsFile StandsIn v.coord.content (coord_batch e)) (KeepsAboveIf (IsTied v) v.names) old new
-            (λ d c at step was. coord_above v is whole (image old) backed e fits (allowed was) d c at step) since;
-        elsewhere = images_append moment image left_since (length v.names) 0 v.coord.content (coord_batch e) old new is.coord.key (omega arith) since;
-        others = only_one (length v.names) 0 v.coord.content.key (seen old) (seen new) is.coord.key (omega arith) others;
-        cause = counts_of (length v.names) v.coord.content.key.part (faults old) (faults new) (part_faults old) (part_faults new) Y X
+        images = weaker on (Appends IsFile StandsIn v.coord.content (coord_batch e)) (KeepsAboveIf (IsTied v) v.names) old new
+            (λ d c at step was. coord_above v is whole (on.image old) backed e fits (allowed was) d c at step) since;
+        elsewhere = images_append on (length v.names) 0 v.coord.content (coord_batch e) old new is.coord.key (omega arith) since;
+        others = only_one (length v.names) 0 v.coord.content.key (on.seen old) (on.seen new) is.coord.key (omega arith) others;
+        cause = counts_of (length v.names) v.coord.content.key.part (on.faults old) (on.faults new) (on.part_faults old) (on.part_faults new) Y X
             (subst (λ (f : FileId). f.part ≤ length v.names) (sym is.coord.key) (omega arith)) means cause;
       }
 
@@ -204,8 +206,8 @@ module _ {D : Type 0} (moment : D → ℕ) (image : D → Files → Type 0) (lef
 
         pub topic_goes : (X Y : Type 0) (es : List TopicEntry) (t : TopicView) (v' : EngineView) → at.content.key ≡ ledger_file (1 + j) → RecordsOf IsBareRecord (records (batch_of es ∷ [])) es → (IsTied v → Lawful (world_of v) → IsAllowed (in_topic (1 + j) es) (world_of v))
             → v'.names ≡ v.names → v'.coord ≡ v.coord → v'.topics ≡ replaced v.topics j t → IsTrue t.whole ⊎ X
-            → (topic.IsFrontOf at → topic.IsFrontOf t) → Backed StandsIn (image new) t.content → Since moment image left_since (Appends IsFile StandsIn at.content (batch_of es)) old new → Elsewhere at.content.key (seen old) (seen new)
-            → CountsFaults at.content.key.part (faults old) (faults new) (part_faults old) (part_faults new) Y → (X → Y) → Goes moment image left_since seen faults part_faults X v v' old new
+            → (topic.IsFrontOf at → topic.IsFrontOf t) → Backed StandsIn (on.image new) t.content → After on (Appends IsFile StandsIn at.content (batch_of es)) old new → Elsewhere at.content.key (on.seen old) (on.seen new)
+            → FaultsIn on at.content.key.part old new Y → (X → Y) → Goes on X v v' old new
         topic_goes X Y es t v' key each allowed names coord topics now tied here since others cause means = record {
           names = names;
           whole = ⊎_elim (λ yes. inl (record {
@@ -217,14 +219,14 @@ module _ {D : Type 0} (moment : D → ℕ) (image : D → Files → Type 0) (lef
             topics = subst (All topic.IsFrontOf) (sym topics) (all_replaced topic.IsFrontOf v.topics j t (tied (at_index topic.IsFrontOf v.topics j (some_topic v) below was.topics)) was.topics);
           };
           backed = record {
-            coord = subst (λ (c : CoordView). Backed StandsIn (image new) c.content) (sym coord) (coord_still_backed old new at.content (batch_of es) since (1 + j) v.coord.content key (omega arith) is.coord.key backed.coord);
-            topics = subst (λ (ts : List TopicView). All (λ t. Backed StandsIn (image new) t.content) ts) (sym topics)
+            coord = subst (λ (c : CoordView). Backed StandsIn (on.image new) c.content) (sym coord) (coord_still_backed old new at.content (batch_of es) since (1 + j) v.coord.content key (omega arith) is.coord.key backed.coord);
+            topics = subst (λ (ts : List TopicView). All (λ t. Backed StandsIn (on.image new) t.content) ts) (sym topics)
                 (topics_backed_but old new at.content (batch_of es) since v.limits (1 + j) 1 j v.topics t key refl here is.topics backed.topics);
           };
-          images = weaker moment image left_since (Appends IsFile StandsIn at.content (batch_of es)) (KeepsAboveIf (IsTied v) v.names) old new
-              (λ d c from step was. topic_above v is whole (image old) backed j below es each (allowed was) d c from step) since;
-          elsewhere = images_append moment image left_since (length v.names) (1 + j) at.content (batch_of es) old new key (omega (arith, below, is.count)) since;
-          others = only_one (length v.names) (1 + j) at.content.key (seen old) (seen new) key (omega (arith, below, is.count)) others;
-          cause = counts_of (length v.names) at.content.key.part (faults old) (faults new) (part_faults old) (part_faults new) Y X
+          images = weaker on (Appends IsFile StandsIn at.content (batch_of es)) (KeepsAboveIf (IsTied v) v.names) old new
+              (λ d c from step was. topic_above v is whole (on.image old) backed j below es each (allowed was) d c from step) since;
+          elsewhere = images_append on (length v.names) (1 + j) at.content (batch_of es) old new key (omega (arith, below, is.count)) since;
+          others = only_one (length v.names) (1 + j) at.content.key (on.seen old) (on.seen new) key (omega (arith, below, is.count)) others;
+          cause = counts_of (length v.names) at.content.key.part (on.faults old) (on.faults new) (on.part_faults old) (on.part_faults new) Y X
               (subst (λ (f : FileId). f.part ≤ length v.names) (sym key) (omega (arith, below, is.count))) means cause;
         }

@@ -2,12 +2,13 @@
 use Rattle.std.proofs.Common.{◌≡◌, ◌⊎◌, inl, inr, ℕ, ◌+◌, ◌<◌, ◌≤◌, ◌↔◌, ◌==◌, not, Bool, true, false, if◌then◌else◌, List, length, is_some, is_none, Result, Ok, Err, IsOk, IsErr, OnOk, OnErr, IsTrue, MatchBool, refl, sym, ap, ◌∙◌, subst, arith, slice_index_or}
 use Rattle.std.specs.Int.{bit_at}
 use Rattle.std.proofs.lemmas.Bool.Decides.{nat_tests}
+use Rattle.txn_base.specs.declared.disk.Disk.{Ghosts}
+use Rattle.txn_base.specs.Moves.{RoseIn}
 use Rattle.txn_base.specs.declared.core_entry.CoreEntry.{CoreEntry}
 use Rattle.txn_base.specs.declared.failed.Failed.{Failed}
 use Rattle.txn_base.specs.declared.reply.Why.TheVariants as why
 use Rattle.txn_base.specs.declared.txn.TxnId.{TxnId}
 use Rattle.txn_base.specs.declared.txn.Decision.{Decision}
-use Rattle.txn_base.specs.Disk.{Files}
 use Rattle.txn_buffer.specs.View.{TopicView}
 use Rattle.txn_model.specs.Coord.{CoordLawful, in_parts, parts_of}
 use Rattle.txn_model.specs.Drive.{Rebuilds, MarksAll, StopsWithin, marker_fault}
@@ -19,7 +20,7 @@ use Rattle.txn_model.proofs.Laws.Names.{few_names}
 use Rattle.txn_engine.specs.Ending.{AreReady, AreMarked, IsElsewhere}
 use Rattle.txn_engine.specs.Kept.{IsEngine}
 use Rattle.txn_engine.specs.Table.{table_of, unrebuilt_from}
-use Rattle.txn_engine.specs.Told.{RoseFor, Goes}
+use Rattle.txn_engine.specs.Told.{Goes}
 use Rattle.txn_engine.specs.View.{EngineView, IsWhole, IsTied, IsBacked}
 use Rattle.txn_engine.proofs.Going.{goes_still, goes_then, goes_like, rose_then}
 use Rattle.txn_engine.proofs.Lists.{none_unrebuilt}
@@ -75,7 +76,7 @@ rebuilds_here v whole p = by_test (is_fenced (table_of v) p) _ (not_fenced v who
 -- ---- The loop.
 
 -- From v to u, over these disks, the parts of x up to the index have their marker, and no other has one more.
-pub record MarksUpTo {D : Type 0} (moment : D → ℕ) (image : D → Files → Type 0) (left_since : D → ℕ → Files → Type 0) (seen : D → Files) (faults : D → ℕ) (part_faults : D → ℕ → ℕ) (tells : Type 0) (x : TxnId) (d : Decision) (v u : EngineView) (old now : D) (at : ℕ) : Type 0 where
+pub record MarksUpTo {D : Type 0} (on : Ghosts D) (tells : Type 0) (x : TxnId) (d : Decision) (v u : EngineView) (old now : D) (at : ℕ) : Type 0 where
   pub within : at ≤ length u.topics
   pub count : length u.topics ≡ length v.topics
   pub few : length v.topics ≤ 62
@@ -85,13 +86,13 @@ pub record MarksUpTo {D : Type 0} (moment : D → ℕ) (image : D → Files → 
   pub ready : (j : ℕ) (t : TopicView) → at ≤ j → j < length u.topics → in_parts (coord_skeletons v.coord.front) x (1 + j) ≡ true → (slice_index_or u.topics j t).reserved ≡ 1
   pub given : AreMarked x u at
   pub marking : tells → IsTied v → Marking x d (parts_of (coord_skeletons v.coord.front) x) (rest_of (coord_skeletons v.coord.front) x at) (table_of v) (table_of u)
-  pub goes : Goes moment image left_since seen faults part_faults ⊥ v u old now
+  pub goes : Goes on ⊥ v u old now
 
-module _ {D : Type 0} (moment : D → ℕ) (image : D → Files → Type 0) (left_since : D → ℕ → Files → Type 0) (seen : D → Files) (faults : D → ℕ) (part_faults : D → ℕ → ℕ) (tells : Type 0) (x : TxnId) (d : Decision) where
+module _ {D : Type 0} (on : Ghosts D) (tells : Type 0) (x : TxnId) (d : Decision) where
   abbrev UpTo : EngineView → EngineView → D → D → ℕ → Type 0
-  UpTo v u old now at = MarksUpTo moment image left_since seen faults part_faults tells x d v u old now at
+  UpTo v u old now at = MarksUpTo on tells x d v u old now at
 
-  pub loop_starts : (v : EngineView) (old : D) → IsEngine v → IsWhole v → AreReady x v (length v.topics) → IsBacked (image old) v → UpTo v v old old 0
+  pub loop_starts : (v : EngineView) (old : D) → IsEngine v → IsWhole v → AreReady x v (length v.topics) → IsBacked (on.image old) v → UpTo v v old old 0
   loop_starts v old is whole ready backed = record {
     within = least (length v.topics);
     count = refl;
@@ -102,7 +103,7 @@ module _ {D : Type 0} (moment : D → ℕ) (image : D → Files → Type 0) (lef
     ready = λ j t from below has. ready j t below below has;
     given = λ j t before. absurd (none j before);
     marking = λ told tied. marking_starts x d (parts_of (coord_skeletons v.coord.front) x) (table_of v);
-    goes = goes_still moment image left_since seen faults part_faults ⊥ (λ e. e) v v old whole backed refl refl refl;
+    goes = goes_still on ⊥ (λ e. e) v v old whole backed refl refl refl;
   }
     where
       least : (n : ℕ) → 0 ≤ n
@@ -158,7 +159,7 @@ module _ {D : Type 0} (moment : D → ℕ) (image : D → Files → Type 0) (lef
           self : (k : ℕ) → k ≤ k
           self k = omega arith
 
-      module _ (w : EngineView) (new : D) (r : Result (Unit {0}) Failed) (elsewhere : IsElsewhere at u w) (goes : Goes moment image left_since seen faults part_faults (IsErr r) u w now new) where
+      module _ (w : EngineView) (new : D) (r : Result (Unit {0}) Failed) (elsewhere : IsElsewhere at u w) (goes : Goes on (IsErr r) u w now new) where
         pub loop_marks : IsOk r → (tells → IsTied u → OnOk r (table_of w ≡ marked x d (1 + at) (table_of u))) → OnOk r ((t : TopicView) → is_some (marker_of (topic_skeletons (slice_index_or w.topics at t).front) x) ≡ true) → UpTo v w old new (at + 1)
         loop_marks is_ok ok stands = record {
           within = omega (arith, below, elsewhere.count);
@@ -173,7 +174,7 @@ module _ {D : Type 0} (moment : D → ℕ) (image : D → Files → Type 0) (lef
           marking = λ told tied.
               marking_more x d (parts_of log x) (1 + at) (rest_of log x at) (rest_of log x (at + 1)) (table_of v) (table_of u) (table_of w) (so.marking told tied) (rest_has log x at has few_here)
               (rebuilds_here u so.whole (1 + at)) (from_is_ok (ok told (so.goes.tied tied)));
-          goes = goes_like moment image left_since seen faults part_faults (IsErr r) ⊥ v w old new (λ err. no_err err) (λ e. absurd e) (goes_then moment image left_since seen faults part_faults ⊥ (IsErr r) v u w old now new so.goes goes);
+          goes = goes_like on (IsErr r) ⊥ v w old new (λ err. no_err err) (λ e. absurd e) (goes_then on ⊥ (IsErr r) v u w old now new so.goes goes);
         }
           where
             no_err : IsErr r → ⊥
@@ -217,17 +218,17 @@ module _ {D : Type 0} (moment : D → ℕ) (image : D → Files → Type 0) (lef
 
         -- its append failed
         pub loop_stops : IsErr r → (tells → IsTied u → OnErr r ((is_none (marker_of (part_skeletons (table_of u).world (1 + at)) x) ≡ true) × (table_of w ≡ fenced_by (marker_batch (table_of u) x d (1 + at)) (1 + at) (table_of u))))
-            → OnErr r (RoseFor (faults now) (faults new) (part_faults now) (part_faults new) (1 + at)) → tells → IsTied v
-            → StopsWithin (RoseFor (faults old) (faults new) (part_faults old) (part_faults new)) x d (parts_of log x) (1 + at) (table_of v) why.Fault (table_of w)
+            → OnErr r (RoseIn on now new (1 + at)) → tells → IsTied v
+            → StopsWithin (RoseIn on old new) x d (parts_of log x) (1 + at) (table_of v) why.Fault (table_of w)
         loop_stops is_err err rose told tied =
             let failed = from_ok_err r ((is_none (marker_of (part_skeletons (table_of u).world (1 + at)) x) ≡ true) × (table_of w ≡ fenced_by (marker_batch (table_of u) x d (1 + at)) (1 + at) (table_of u))) is_err (err told (so.goes.tied tied)) in
-            let grew = from_ok_err r (RoseFor (faults now) (faults new) (part_faults now) (part_faults new) (1 + at)) is_err rose in
-            marking_stops x d (parts_of log x) (RoseFor (faults old) (faults new) (part_faults old) (part_faults new)) (1 + at) (rest_of log x at) (rest_of log x (at + 1)) (table_of v) (table_of u) why.Fault (table_of w) (so.marking told tied) (rest_has log x at has few_here)
+            let grew = from_ok_err r (RoseIn on now new (1 + at)) is_err rose in
+            marking_stops x d (parts_of log x) (RoseIn on old new) (1 + at) (rest_of log x at) (rest_of log x (at + 1)) (table_of v) (table_of u) why.Fault (table_of w) (so.marking told tied) (rest_has log x at has few_here)
             (marker_fault (table_of u) (rebuilds_here u so.whole (1 + at)) failed.0
-            (rose_then (faults old) (faults now) (faults new) so.goes.cause.later grew.0, rose_then (part_faults old (1 + at)) (part_faults now (1 + at)) (part_faults new (1 + at)) (so.goes.cause.parts_later (1 + at)) grew.1) failed.1 refl)
+            (rose_then (on.faults old) (on.faults now) (on.faults new) so.goes.cause.later grew.0, rose_then (on.part_faults old (1 + at)) (on.part_faults now (1 + at)) (on.part_faults new (1 + at)) (so.goes.cause.parts_later (1 + at)) grew.1) failed.1 refl)
 
-        pub loop_fails : IsErr r → (Y : Type 0) → Y → Goes moment image left_since seen faults part_faults Y v w old new
-        loop_fails is_err Y y = goes_like moment image left_since seen faults part_faults (IsErr r) Y v w old new (λ err. y) (λ z. is_err) (goes_then moment image left_since seen faults part_faults ⊥ (IsErr r) v u w old now new so.goes goes)
+        pub loop_fails : IsErr r → (Y : Type 0) → Y → Goes on Y v w old new
+        loop_fails is_err Y y = goes_like on (IsErr r) Y v w old new (λ err. y) (λ z. is_err) (goes_then on ⊥ (IsErr r) v u w old now new so.goes goes)
 
   -- over an equal engine and disk
   pub loop_at : (v u u' : EngineView) (old now now' : D) (at : ℕ) → u' ≡ u → now' ≡ now → UpTo v u old now at → UpTo v u' old now' at

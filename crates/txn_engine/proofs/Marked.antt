@@ -1,13 +1,15 @@
 -- How an engine goes on where one of its topics gets a marker.
 use Rattle.std.proofs.Common.{◌≡◌, ◌⊎◌, inl, inr, ℕ, zero, suc, ◌+◌, ◌<◌, true, List, [], ◌∷◌, ◌++◌, length, Option, Some, None, is_some, is_none, Result, Ok, Err, IsOk, IsErr, OnOk, OnErr, IsTrue, refl, sym, ap, ◌∙◌, subst, arith}
 use Rattle.std.proofs.Math.ListN.{get_or, set}
+use Rattle.txn_base.specs.declared.disk.Disk.{Ghosts}
+use Rattle.txn_base.specs.Moves.{After, FaultsIn}
 use Rattle.txn_base.specs.declared.failed.Failed.{Failed}
 use Rattle.txn_base.specs.declared.file_id.FileId.{FileId}
 use Rattle.txn_base.specs.declared.entry.TopicEntry.{TopicEntry}
 use Rattle.txn_base.specs.declared.txn.TxnId.{TxnId}
 use Rattle.txn_base.specs.declared.txn.Decision.{Decision}
 use Rattle.txn_base.specs.Content.{settled, Appends, Backed}
-use Rattle.txn_base.specs.Disk.{Files, Elsewhere, Since, CountsFaults}
+use Rattle.txn_base.specs.Disk.{Elsewhere, CountsFaults}
 use Rattle.txn_base.specs.Outside.{Rose}
 use Rattle.txn_base.specs.Records.{IsTxnId}
 use Rattle.txn_buffer.specs.View as topic
@@ -168,24 +170,24 @@ module _ (v : EngineView) (is : IsEngine v) (w : EngineView) (view : v ≡ w) (w
 
     -- ---- How it goes on.
 
-    module _ {D : Type 0} (moment : D → ℕ) (image : D → Files → Type 0) (left_since : D → ℕ → Files → Type 0) (seen : D → Files) (faults : D → ℕ) (part_faults : D → ℕ → ℕ) (old new : D) (backed : IsBacked (image old) v) (still : same → new ≡ old)
-        (tie : topic.IsFrontOf t → topic.IsFrontOf t') (here : Backed StandsIn (image new) t'.content) (since : Since moment image left_since (Appends IsFile StandsIn t.content (batch_of es)) old new) (others : Elsewhere t.content.key (seen old) (seen new))
-        (cause : CountsFaults t.content.key.part (faults old) (faults new) (part_faults old) (part_faults new) (IsErr r)) where
-      follows_goes : marker_of (topic_skeletons t.front) x ≡ None → Goes moment image left_since seen faults part_faults (IsErr r) v u old new
+    module _ {D : Type 0} (on : Ghosts D) (old new : D) (backed : IsBacked (on.image old) v) (still : same → new ≡ old)
+        (tie : topic.IsFrontOf t → topic.IsFrontOf t') (here : Backed StandsIn (on.image new) t'.content) (since : After on (Appends IsFile StandsIn t.content (batch_of es)) old new) (others : Elsewhere t.content.key (on.seen old) (on.seen new))
+        (cause : FaultsIn on t.content.key.part old new (IsErr r)) where
+      follows_goes : marker_of (topic_skeletons t.front) x ≡ None → Goes on (IsErr r) v u old new
       follows_goes m =
-          topic_goes moment image left_since seen faults part_faults v is whole old new backed j below (IsErr r) (IsErr r) es t' u
+          topic_goes on v is whole old new backed j below (IsErr r) (IsErr r) es t' u
           (ap (λ (k : TopicView). k.content.key) at ∙ one.key) (marker_records x d fits) (λ tied. marker_allowed v is j below x d whole tied decided (at_marker None m)) refl refl refl (whole_by way)
-          (λ was. tie (subst topic.IsFrontOf at was)) here (subst (λ (k : TopicView). Since moment image left_since (Appends IsFile StandsIn k.content (batch_of es)) old new) (sym at) since) (subst (λ (k : TopicView). Elsewhere k.content.key (seen old) (seen new)) (sym at) others)
-          (subst (λ (k : TopicView). CountsFaults k.content.key.part (faults old) (faults new) (part_faults old) (part_faults new) (IsErr r)) (sym at) cause) (λ h. h)
+          (λ was. tie (subst topic.IsFrontOf at was)) here (subst (λ (k : TopicView). After on (Appends IsFile StandsIn k.content (batch_of es)) old new) (sym at) since) (subst (λ (k : TopicView). Elsewhere k.content.key (on.seen old) (on.seen new)) (sym at) others)
+          (subst (λ (k : TopicView). FaultsIn on k.content.key.part old new (IsErr r)) (sym at) cause) (λ h. h)
 
-      goes_by : Way same → Goes moment image left_since seen faults part_faults (IsErr r) v u old new
+      goes_by : Way same → Goes on (IsErr r) v u old new
       goes_by (stands m ok e s) =
-          subst (λ (d : D). Goes moment image left_since seen faults part_faults (IsErr r) v u old d) (sym (still s))
-          (goes_still moment image left_since seen faults part_faults (IsErr r) (ok_no_err r ok) v u old whole backed refl refl (ap (λ (z : EngineView). z.topics) (put_back v j t t' at e)))
+          subst (λ (d : D). Goes on (IsErr r) v u old d) (sym (still s))
+          (goes_still on (IsErr r) (ok_no_err r ok) v u old whole backed refl refl (ap (λ (z : EngineView). z.topics) (put_back v j t t' at e)))
       goes_by (follows m ok e) = follows_goes m
       goes_by (fails m err e) = follows_goes m
 
-      pub marked_goes : Goes moment image left_since seen faults part_faults (IsErr r) v u old new
+      pub marked_goes : Goes on (IsErr r) v u old new
       marked_goes = goes_by way
 
     -- ---- The clauses, over an equal view, and the topics after a write by index.
@@ -212,10 +214,10 @@ module _ (v : EngineView) (is : IsEngine v) (w : EngineView) (view : v ≡ w) (w
     pub rose_clause : (f g : ℕ) (fs gs : ℕ → ℕ) → CountsFaults t.content.key.part f g fs gs (IsErr r) → OnErr r (RoseFor f g fs gs (1 + j))
     rose_clause f g fs gs cause = on_err r (RoseFor f g fs gs (1 + j)) (λ err. subst (λ (k : FileId). Rose f g × Rose (fs k.part) (gs k.part)) one.key (cause.failed err))
 
-    pub goes_clause : {D : Type 0} (moment : D → ℕ) (image : D → Files → Type 0) (left_since : D → ℕ → Files → Type 0) (seen : D → Files) (faults : D → ℕ) (part_faults : D → ℕ → ℕ) (old new : D) → IsBacked (image old) w → (same → new ≡ old)
-        → (topic.IsFrontOf t → topic.IsFrontOf t') → Backed StandsIn (image new) t'.content → Since moment image left_since (Appends IsFile StandsIn t.content (batch_of es)) old new → Elsewhere t.content.key (seen old) (seen new)
-        → CountsFaults t.content.key.part (faults old) (faults new) (part_faults old) (part_faults new) (IsErr r) → Goes moment image left_since seen faults part_faults (IsErr r) w u' old new
-    goes_clause moment image left_since seen faults part_faults old new backed still tie here since others cause =
-        subst (λ (z : EngineView). Goes moment image left_since seen faults part_faults (IsErr r) z u' old new) view
-        (subst (λ (z : EngineView). Goes moment image left_since seen faults part_faults (IsErr r) v z old new) put
-        (marked_goes moment image left_since seen faults part_faults old new (subst (IsBacked (image old)) (sym view) backed) still tie here since others cause))
+    pub goes_clause : {D : Type 0} (on : Ghosts D) (old new : D) → IsBacked (on.image old) w → (same → new ≡ old)
+        → (topic.IsFrontOf t → topic.IsFrontOf t') → Backed StandsIn (on.image new) t'.content → After on (Appends IsFile StandsIn t.content (batch_of es)) old new → Elsewhere t.content.key (on.seen old) (on.seen new)
+        → FaultsIn on t.content.key.part old new (IsErr r) → Goes on (IsErr r) w u' old new
+    goes_clause on old new backed still tie here since others cause =
+        subst (λ (z : EngineView). Goes on (IsErr r) z u' old new) view
+        (subst (λ (z : EngineView). Goes on (IsErr r) v z old new) put
+        (marked_goes on old new (subst (IsBacked (on.image old)) (sym view) backed) still tie here since others cause))

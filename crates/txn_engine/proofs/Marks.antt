@@ -2,8 +2,9 @@
 use Rattle.std.proofs.Common.{◌≡◌, inl, ℕ, ◌+◌, ◌-◌, ◌<◌, ◌==◌, Bool, true, false, if◌then◌else◌, [], ◌∷◌, ◌++◌, length, Option, Some, None, is_some, refl, sym, ap, ◌∙◌, subst, arith}
 use Rattle.std.proofs.Math.ListN.{get_or}
 use Rattle.std.proofs.lemmas.Bool.Decides.{nat_tests}
+use Rattle.txn_base.specs.declared.disk.Disk.{Ghosts}
+use Rattle.txn_base.specs.Moves.{After}
 use Rattle.txn_base.specs.Content.{LedgerContent, settled, Appends, Backed}
-use Rattle.txn_base.specs.Disk.{Files, Since}
 use Rattle.txn_base.specs.Frames.{Batch as FrameBatch}
 use Rattle.txn_base.proofs.Laws.{started}
 use Rattle.txn_ledger.specs.Ledger.{IsFile, StandsIn}
@@ -44,10 +45,10 @@ entry_is x Abort = refl
 
 -- ---- A ledger to which nothing is added.
 
-module _ {D : Type 0} (moment : D → ℕ) (image : D → Files → Type 0) (left_since : D → ℕ → Files → Type 0) where
-  pub appends_nothing : (content : LedgerContent) (batch : FrameBatch) (disk : D) → content.standing ≡ settled → Backed StandsIn (image disk) content → Since moment image left_since (Appends IsFile StandsIn content batch) disk disk
+module _ {D : Type 0} (on : Ghosts D) where
+  pub appends_nothing : (content : LedgerContent) (batch : FrameBatch) (disk : D) → content.standing ≡ settled → Backed StandsIn (on.image disk) content → After on (Appends IsFile StandsIn content batch) disk disk
   appends_nothing content batch disk is backed =
-      started moment image left_since disk (Appends IsFile StandsIn content batch)
+      started on disk (Appends IsFile StandsIn content batch)
       (λ c at. record { here = inl (stands_settled (StandsIn content.key c) content.batches content.standing is (backed.each c at)); others = λ other not. refl })
 
 -- ---- The topic at an index.

@@ -3,9 +3,11 @@ use Rattle.std.proofs.Common.{◌≡◌, ◌⊎◌, ⊎_elim, inl, inr, ℕ, ◌
 use Rattle.std.specs.Prelude.{eqb}
 use Rattle.std.proofs.lemmas.Bool.Decides.{eqb_tells}
 use Rattle.std.proofs.lemmas.List.Elements.{All-head, All-tail, All-cons, All-nil}
+use Rattle.txn_base.specs.declared.disk.Disk.{Ghosts}
+use Rattle.txn_base.specs.Moves.{After}
 use Rattle.txn_base.specs.declared.file_id.FileId.{FileId}
 use Rattle.txn_base.specs.Content.{LedgerContent, Standing, settled, in_flight, looked_at, KeptOrNot, Backed, Settles}
-use Rattle.txn_base.specs.Disk.{Files, Elsewhere, Since, Changes, CountsFaults}
+use Rattle.txn_base.specs.Disk.{Files, Elsewhere, Changes, CountsFaults}
 use Rattle.txn_base.specs.Frames.{Batch, Stands, IsDamagedAt}
 use Rattle.txn_base.specs.Outside.{Rose}
 use Rattle.txn_base.proofs.Laws.{goes_on, weaker, stands_one, stands_not_damaged}
@@ -58,15 +60,15 @@ damaged_then before mid after one two file entry damaged =
 pub stands_here : (P : List Batch → Type 0) (batches : List Batch) (s : Standing) → s ≡ settled → KeptOrNot P batches s → P batches
 stands_here P batches s is here = subst (KeptOrNot P batches) is here
 
-module _ {D : Type 0} (moment : D → ℕ) (image : D → Files → Type 0) (left_since : D → ℕ → Files → Type 0) where
-  pub mended_keeps : (key : FileId) (content : LedgerContent) (old mid new : D) → content.key ≡ key → content.standing ≡ settled → Backed StandsIn (image mid) content
-      → Since moment image left_since (Changes key KeepsList) old mid → Since moment image left_since (Settles IsFile StandsIn content) mid new
-      → Since moment image left_since (Changes key KeepsList) old new
+module _ {D : Type 0} (on : Ghosts D) where
+  pub mended_keeps : (key : FileId) (content : LedgerContent) (old mid new : D) → content.key ≡ key → content.standing ≡ settled → Backed StandsIn (on.image mid) content
+      → After on (Changes key KeepsList) old mid → After on (Settles IsFile StandsIn content) mid new
+      → After on (Changes key KeepsList) old new
   mended_keeps key content old mid new key_is settled_is backed so_far call =
-      goes_on moment image left_since (Changes key KeepsList) (Settles IsFile StandsIn content) (Changes key KeepsList) old mid new so_far call
+      goes_on on (Changes key KeepsList) (Settles IsFile StandsIn content) (Changes key KeepsList) old mid new so_far call
       (λ d c at one. one) (λ d e c at one mid_at two. further d e c one mid_at two)
     where
-      further : (d e c : Files) → Changes key KeepsList d e → image mid e → Settles IsFile StandsIn content e c → Changes key KeepsList d c
+      further : (d e c : Files) → Changes key KeepsList d e → on.image mid e → Settles IsFile StandsIn content e c → Changes key KeepsList d c
       further d e c one at two = record {
         here = λ batches stands.
             let before : Stands (e key) content.batches = same_key e content.key key content.batches key_is (stands_here (StandsIn content.key e) content.batches content.standing settled_is (backed.each e at)) in
@@ -77,25 +79,25 @@ module _ {D : Type 0} (moment : D → ℕ) (image : D → Files → Type 0) (lef
 
   -- ---- Each file keeps its list.
 
-  pub keeps_of : (key : FileId) (old new : D) → Since moment image left_since (Changes key KeepsList) old new → Since moment image left_since KeepsLists old new
-  keeps_of key old new since = weaker moment image left_since (Changes key KeepsList) KeepsLists old new (λ d c at is. keeps_all key d c is) since
+  pub keeps_of : (key : FileId) (old new : D) → After on (Changes key KeepsList) old new → After on KeepsLists old new
+  keeps_of key old new since = weaker on (Changes key KeepsList) KeepsLists old new (λ d c at is. keeps_all key d c is) since
 
-  pub keeps_then : (old mid new : D) → Since moment image left_since KeepsLists old mid → Since moment image left_since KeepsLists mid new → Since moment image left_since KeepsLists old new
-  keeps_then old mid new one two = goes_on moment image left_since KeepsLists KeepsLists KeepsLists old mid new one two (λ d c at is. is) (λ d e c at first mid_at second file batches stands. second file batches (first file batches stands))
+  pub keeps_then : (old mid new : D) → After on KeepsLists old mid → After on KeepsLists mid new → After on KeepsLists old new
+  keeps_then old mid new one two = goes_on on KeepsLists KeepsLists KeepsLists old mid new one two (λ d c at is. is) (λ d e c at first mid_at second file batches stands. second file batches (first file batches stands))
 
-  pub backed_kept : (content : LedgerContent) (old new : D) → Since moment image left_since KeepsLists old new → Backed StandsIn (image old) content → Backed StandsIn (image new) content
-  backed_kept content old new since backed = record { each = λ c at. let from = since.at_end c at in on content.standing from.0 c from.2 (backed.each from.0 from.1) }
+  pub backed_kept : (content : LedgerContent) (old new : D) → After on KeepsLists old new → Backed StandsIn (on.image old) content → Backed StandsIn (on.image new) content
+  backed_kept content old new since backed = record { each = λ c at. let from = since.at_end c at in each_kept content.standing from.0 c from.2 (backed.each from.0 from.1) }
     where
-      on : (s : Standing) (d c : Files) → KeepsLists d c → KeptOrNot (StandsIn content.key d) content.batches s → KeptOrNot (StandsIn content.key c) content.batches s
-      on settled d c keeps h = keeps content.key content.batches h
-      on looked_at d c keeps h = keeps content.key content.batches h
-      on (in_flight batch) d c keeps h = ⊎_elim (λ none. inl (keeps content.key content.batches none)) (λ more. inr (keeps content.key (content.batches ++ batch ∷ []) more)) h
+      each_kept : (s : Standing) (d c : Files) → KeepsLists d c → KeptOrNot (StandsIn content.key d) content.batches s → KeptOrNot (StandsIn content.key c) content.batches s
+      each_kept settled d c keeps h = keeps content.key content.batches h
+      each_kept looked_at d c keeps h = keeps content.key content.batches h
+      each_kept (in_flight batch) d c keeps h = ⊎_elim (λ none. inl (keeps content.key content.batches none)) (λ more. inr (keeps content.key (content.batches ++ batch ∷ []) more)) h
 
-  pub topics_kept : (ts : List TopicView) (old new : D) → Since moment image left_since KeepsLists old new → All (λ t. Backed StandsIn (image old) t.content) ts → All (λ t. Backed StandsIn (image new) t.content) ts
-  topics_kept [] old new since all = All-nil (λ t. Backed StandsIn (image new) t.content)
+  pub topics_kept : (ts : List TopicView) (old new : D) → After on KeepsLists old new → All (λ t. Backed StandsIn (on.image old) t.content) ts → All (λ t. Backed StandsIn (on.image new) t.content) ts
+  topics_kept [] old new since all = All-nil (λ t. Backed StandsIn (on.image new) t.content)
   topics_kept (t ∷ ts) old new since all =
-      All-cons (λ t. Backed StandsIn (image new) t.content) t ts
-      (backed_kept t.content old new since (All-head (λ t. Backed StandsIn (image old) t.content) t ts all)) (topics_kept ts old new since (All-tail (λ t. Backed StandsIn (image old) t.content) t ts all))
+      All-cons (λ t. Backed StandsIn (on.image new) t.content) t ts
+      (backed_kept t.content old new since (All-head (λ t. Backed StandsIn (on.image old) t.content) t ts all)) (topics_kept ts old new since (All-tail (λ t. Backed StandsIn (on.image old) t.content) t ts all))
 
   -- ---- The files stand for the world for which they stood.
 
@@ -112,8 +114,8 @@ module _ {D : Type 0} (moment : D → ℕ) (image : D → Files → Type 0) (lef
     others = λ p row above most few. keeps (part_file p row) [] (was.others p row above most few);
   }
 
-  pub worlds_kept : (names : List (List ℕ)) (old new : D) → Since moment image left_since KeepsLists old new → Since moment image left_since (KeepsWorld names) old new
-  worlds_kept names old new since = weaker moment image left_since KeepsLists (KeepsWorld names) old new (λ d c at keeps. world_kept names d c keeps) since
+  pub worlds_kept : (names : List (List ℕ)) (old new : D) → After on KeepsLists old new → After on (KeepsWorld names) old new
+  worlds_kept names old new since = weaker on KeepsLists (KeepsWorld names) old new (λ d c at keeps. world_kept names d c keeps) since
 
 -- ---- Counts of one part.
 

@@ -1,13 +1,15 @@
 -- How an engine goes on through a publish, and what the clauses of its calls say.
 use Rattle.std.proofs.Common.{◌≡◌, ◌⊎◌, inl, inr, ℕ, ◌+◌, ◌-◌, ◌<◌, ◌≤◌, ◌↔◌, true, false, List, [], ◌∷◌, length, Option, Some, None, Result, Ok, Err, OnOk, IsTrue, refl, sym, ap, ap₂, ◌∙◌, subst}
 use Rattle.std.proofs.Math.ListN.{get_or, set}
+use Rattle.txn_base.specs.declared.disk.Disk.{Ghosts}
+use Rattle.txn_base.specs.Moves.{After, FaultsIn}
 use Rattle.txn_base.specs.declared.entry.TopicEntry.{TopicEntry}
 use Rattle.txn_base.specs.declared.limits.Limits.{Limits}
 use Rattle.txn_base.specs.declared.request.Request.TheVariants as request
 use Rattle.txn_base.specs.declared.reply.Reply.TheVariants as reply
 use Rattle.txn_base.specs.declared.txn.TxnId.{TxnId}
 use Rattle.txn_base.specs.Content.{Appends, Backed}
-use Rattle.txn_base.specs.Disk.{Files, Elsewhere, Since, CountsFaults}
+use Rattle.txn_base.specs.Disk.{Elsewhere}
 use Rattle.txn_base.specs.Frames.{records}
 use Rattle.txn_ledger.specs.Ledger.{IsFile, StandsIn}
 use Rattle.txn_buffer.specs.Adding.{messages_of, IsUnmarked}
@@ -39,7 +41,7 @@ use Rattle.txn_engine.proofs.Published.{unmarked, why_told, IsAfter, after_topic
 
 -- ---- How it goes on.
 
-module _ {D : Type 0} (moment : D → ℕ) (image : D → Files → Type 0) (left_since : D → ℕ → Files → Type 0) (seen : D → Files) (faults : D → ℕ) (part_faults : D → ℕ → ℕ) (v : EngineView) (is : IsEngine v) (whole : IsWhole v) (old new : D) (backed : IsBacked (image old) v)
+module _ {D : Type 0} (on : Ghosts D) (v : EngineView) (is : IsEngine v) (whole : IsWhole v) (old new : D) (backed : IsBacked (on.image old) v)
     (topic : List ℕ) (who : Option TxnId) (bodies : List (List ℕ)) (p : ℕ) (known : part_of v.names topic ≡ Some p) (own : foreign who ≡ None) (small : are_too_big v.limits bodies ≡ false)
     (t : TopicView) (at : IsAt v (p - 1) t) (free : why_not_in (coord_skeletons v.coord.front) (topic_skeletons t.front) (1 + (p - 1)) who ≡ None) (some : 1 ≤ length bodies) (t' : TopicView) where
   abbrev entries : List TopicEntry
@@ -62,25 +64,25 @@ module _ {D : Type 0} (moment : D → ℕ) (image : D → Files → Type 0) (lef
       row_allowed v is whole (request.Publish topic who bodies) (in_topic (1 + (p - 1)) entries) (early_none v is whole tied 0 0 (λ q. 0) (λ q. 0) topic who bodies 0 p known own small t at free some)
       (late_none v is whole tied 0 0 (λ q. 0) (λ q. 0) topic who bodies 0 p known own small t at free some room) (adds v is whole tied 0 0 (λ q. 0) (λ q. 0) topic who bodies 0 p known own small t at free some) tied
 
-  still : (X : Type 0) → (X → ⊥) → t' ≡ t → new ≡ old → Goes moment image left_since seen faults part_faults X v later old new
+  still : (X : Type 0) → (X → ⊥) → t' ≡ t → new ≡ old → Goes on X v later old new
   still X none same disk =
-      subst (λ (d : D). Goes moment image left_since seen faults part_faults X v later old d) (sym disk)
-      (subst (λ (u : EngineView). Goes moment image left_since seen faults part_faults X v u old old) (sym (put_back v (p - 1) t t' at same)) (goes_still moment image left_since seen faults part_faults X none v v old whole backed refl refl refl))
+      subst (λ (d : D). Goes on X v later old d) (sym disk)
+      (subst (λ (u : EngineView). Goes on X v u old old) (sym (put_back v (p - 1) t t' at same)) (goes_still on X none v v old whole backed refl refl refl))
 
-  changed : (X Y : Type 0) → (v.limits.log < total_of t + length bodies → ⊥) → RecordsOf IsBareRecord (records (batch_of entries ∷ [])) entries → IsTrue t'.whole ⊎ X → (buffer.IsFrontOf t → buffer.IsFrontOf t') → Backed StandsIn (image new) t'.content
-      → Since moment image left_since (Appends IsFile StandsIn t.content (batch_of entries)) old new → Elsewhere t.content.key (seen old) (seen new) → CountsFaults t.content.key.part (faults old) (faults new) (part_faults old) (part_faults new) Y → (X → Y) → Goes moment image left_since seen faults part_faults X v later old new
+  changed : (X Y : Type 0) → (v.limits.log < total_of t + length bodies → ⊥) → RecordsOf IsBareRecord (records (batch_of entries ∷ [])) entries → IsTrue t'.whole ⊎ X → (buffer.IsFrontOf t → buffer.IsFrontOf t') → Backed StandsIn (on.image new) t'.content
+      → After on (Appends IsFile StandsIn t.content (batch_of entries)) old new → Elsewhere t.content.key (on.seen old) (on.seen new) → FaultsIn on t.content.key.part old new Y → (X → Y) → Goes on X v later old new
   changed X Y room each now tie here since others cause means =
       let here_is : t ≡ get_or v.topics (p - 1) (some_topic v) = sym at in
-      topic_goes moment image left_since seen faults part_faults v is whole old new backed (p - 1) place_of.below X Y entries t' later (subst (λ (u : TopicView). u.content.key ≡ ledger_file (1 + (p - 1))) here_is topic_is.key) each (may room) refl refl refl now
+      topic_goes on v is whole old new backed (p - 1) place_of.below X Y entries t' later (subst (λ (u : TopicView). u.content.key ≡ ledger_file (1 + (p - 1))) here_is topic_is.key) each (may room) refl refl refl now
       (subst (λ (u : TopicView). buffer.IsFrontOf u → buffer.IsFrontOf t') here_is tie) here
-      (subst (λ (u : TopicView). Since moment image left_since (Appends IsFile StandsIn u.content (batch_of entries)) old new) here_is since)
-      (subst (λ (u : TopicView). Elsewhere u.content.key (seen old) (seen new)) here_is others)
-      (subst (λ (u : TopicView). CountsFaults u.content.key.part (faults old) (faults new) (part_faults old) (part_faults new) Y) here_is cause) means
+      (subst (λ (u : TopicView). After on (Appends IsFile StandsIn u.content (batch_of entries)) old new) here_is since)
+      (subst (λ (u : TopicView). Elsewhere u.content.key (on.seen old) (on.seen new)) here_is others)
+      (subst (λ (u : TopicView). FaultsIn on u.content.key.part old new Y) here_is cause) means
 
   pub published_goes : (result : Result ℕ TopicError) (count : ℕ) → IsAfter t t' entries result → ((result ≡ Err (topic_error.Full (total_of t))) ↔ (v.limits.log < total_of t + length bodies)) → RecordsOf IsBareRecord (records (batch_of entries ∷ [])) entries → ((n : ℕ) → result ≡ Err (topic_error.Full n) → new ≡ old)
-      → (result ≡ Err topic_error.NoMemory → new ≡ old) → (buffer.IsFrontOf t → buffer.IsFrontOf t') → Backed StandsIn (image new) t'.content
-      → Since moment image left_since (Appends IsFile StandsIn t.content (batch_of entries)) old new → Elsewhere t.content.key (seen old) (seen new) → CountsFaults t.content.key.part (faults old) (faults new) (part_faults old) (part_faults new) (result ≡ Err topic_error.Fault)
-      → Goes moment image left_since seen faults part_faults (is_fault (publish_reply topic count result) ≡ true) v later old new
+      → (result ≡ Err topic_error.NoMemory → new ≡ old) → (buffer.IsFrontOf t → buffer.IsFrontOf t') → Backed StandsIn (on.image new) t'.content
+      → After on (Appends IsFile StandsIn t.content (batch_of entries)) old new → Elsewhere t.content.key (on.seen old) (on.seen new) → FaultsIn on t.content.key.part old new (result ≡ Err topic_error.Fault)
+      → Goes on (is_fault (publish_reply topic count result) ≡ true) v later old new
   published_goes (Ok place) count is_after full each unwritten memory tie here since others cause =
       changed (false ≡ true) (◌≡◌ {A = Result ℕ TopicError} (Ok place) (Err topic_error.Fault)) (λ h. never place (total_of t) (full.1 h)) each (inl (subst (λ (u : TopicView). IsTrue u.whole) (sym is_after.ok) whole_is)) tie here since others cause (λ h. cc)
     where

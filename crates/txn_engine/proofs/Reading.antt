@@ -3,6 +3,8 @@ use Rattle.std.proofs.Common.{◌≡◌, ◌⊎◌, inl, inr, ℕ, ◌+◌, ◌-
 use Rattle.std.proofs.Math.ListN.{get_or}
 use Rattle.std.proofs.lemmas.List.{get_or_default}
 use Rattle.std.proofs.lemmas.List.Elements.{All-head, All-tail, All-cons, All-nil}
+use Rattle.txn_base.specs.declared.disk.Disk.{Ghosts}
+use Rattle.txn_base.specs.Moves.{After, FaultsIn}
 use Rattle.txn_base.specs.declared.file_id.FileId.{FileId}
 use Rattle.txn_base.specs.declared.limits.Limits.{Limits}
 use Rattle.txn_base.specs.declared.entry.TopicEntry.{TopicEntry}
@@ -12,7 +14,7 @@ use Rattle.txn_base.specs.declared.reply.Reply.{Reply}
 use Rattle.txn_base.specs.declared.reply.Reply.TheVariants as reply
 use Rattle.txn_base.specs.declared.reply.Refusal.TheVariants as no
 use Rattle.txn_base.specs.Content.{LedgerContent, KeptOrNot, Backed}
-use Rattle.txn_base.specs.Disk.{Files, Same, Since, CountsFaults}
+use Rattle.txn_base.specs.Disk.{Files, Same}
 use Rattle.txn_base.specs.Outside.{Rose}
 use Rattle.txn_base.proofs.Laws.{weaker}
 use Rattle.txn_ledger.specs.Ledger.{StandsIn}
@@ -103,21 +105,21 @@ module _ (v : EngineView) (is : IsEngine v) (whole : IsWhole v) (tied : IsTied v
 
 -- ---- Nothing changes.
 
-module _ {D : Type 0} (moment : D → ℕ) (image : D → Files → Type 0) (left_since : D → ℕ → Files → Type 0) (old new : D) (since : Since moment image left_since Same old new) where
-  same_backed : (k : LedgerContent) → Backed StandsIn (image old) k → Backed StandsIn (image new) k
+module _ {D : Type 0} (on : Ghosts D) (old new : D) (since : After on Same old new) where
+  same_backed : (k : LedgerContent) → Backed StandsIn (on.image old) k → Backed StandsIn (on.image new) k
   same_backed k backed = record {
     each = λ c at. let from = since.at_end c at in subst (λ (files : Files). KeptOrNot (StandsIn k.key files) k.batches k.standing) (sym from.2) (backed.each from.0 from.1);
   }
 
-  topics_same_backed : (ts : List TopicView) → All (λ t. Backed StandsIn (image old) t.content) ts → All (λ t. Backed StandsIn (image new) t.content) ts
-  topics_same_backed [] backed = All-nil (λ t. Backed StandsIn (image new) t.content)
+  topics_same_backed : (ts : List TopicView) → All (λ t. Backed StandsIn (on.image old) t.content) ts → All (λ t. Backed StandsIn (on.image new) t.content) ts
+  topics_same_backed [] backed = All-nil (λ t. Backed StandsIn (on.image new) t.content)
   topics_same_backed (t ∷ ts) backed =
-      All-cons (λ t. Backed StandsIn (image new) t.content) t ts (same_backed t.content (All-head (λ t. Backed StandsIn (image old) t.content) t ts backed))
-      (topics_same_backed ts (All-tail (λ t. Backed StandsIn (image old) t.content) t ts backed))
+      All-cons (λ t. Backed StandsIn (on.image new) t.content) t ts (same_backed t.content (All-head (λ t. Backed StandsIn (on.image old) t.content) t ts backed))
+      (topics_same_backed ts (All-tail (λ t. Backed StandsIn (on.image old) t.content) t ts backed))
 
-  pub read_goes : (seen : D → Files) → seen new ≡ seen old → (faults : D → ℕ) (part_faults : D → ℕ → ℕ) (v : EngineView) → IsEngine v → IsWhole v → IsBacked (image old) v → (topic : List ℕ) (p : ℕ) → part_of v.names topic ≡ Some p → (t : TopicView) → IsAt v (p - 1) t → (X Y : Type 0)
-      → CountsFaults t.content.key.part (faults old) (faults new) (part_faults old) (part_faults new) Y → (X → Y) → Goes moment image left_since seen faults part_faults X v v old new
-  read_goes seen still faults part_faults v is whole backed topic p known t at X Y cause means =
+  pub read_goes : on.seen new ≡ on.seen old → (v : EngineView) → IsEngine v → IsWhole v → IsBacked (on.image old) v → (topic : List ℕ) (p : ℕ) → part_of v.names topic ≡ Some p → (t : TopicView) → IsAt v (p - 1) t → (X Y : Type 0)
+      → FaultsIn on t.content.key.part old new Y → (X → Y) → Goes on X v v old new
+  read_goes still v is whole backed topic p known t at X Y cause means =
       let found = knows v is topic p known in
       let one : IsTopic v.limits (1 + (p - 1)) t = is_topic_at v is (p - 1) t found.below at in
       record {
@@ -125,10 +127,10 @@ module _ {D : Type 0} (moment : D → ℕ) (image : D → Files → Type 0) (lef
         whole = inl whole;
         tied = λ was. was;
         backed = record { coord = same_backed v.coord.content backed.coord; topics = topics_same_backed v.topics backed.topics };
-        images = weaker moment image left_since Same (KeepsAboveIf (IsTied v) v.names) old new (λ d c here same was floor above. subst (StandsAbove v.names floor) (sym same) above) since;
-        elsewhere = images_same moment image left_since (length v.names) old new since;
-        others = only_none (length v.names) (seen old) (seen new) still;
-        cause = counts_of (length v.names) t.content.key.part (faults old) (faults new) (part_faults old) (part_faults new) Y X
+        images = weaker on Same (KeepsAboveIf (IsTied v) v.names) old new (λ d c here same was floor above. subst (StandsAbove v.names floor) (sym same) above) since;
+        elsewhere = images_same on (length v.names) old new since;
+        others = only_none (length v.names) (on.seen old) (on.seen new) still;
+        cause = counts_of (length v.names) t.content.key.part (on.faults old) (on.faults new) (on.part_faults old) (on.part_faults new) Y X
             (subst (λ (k : FileId). k.part ≤ length v.names) (sym one.key) (within (p - 1) (length v.topics) (length v.names) found.below is.count)) means cause;
       }
     where

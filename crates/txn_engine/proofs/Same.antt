@@ -2,6 +2,7 @@
 use Rattle.std.proofs.Common.{◌≡◌, inl, ℕ, zero, suc, ◌<◌, ◌≤◌, ◌^◌, ◌==◌, not, true, if◌then◌else◌, List, [], ◌∷◌, length, All, IsTrue, refl, sym, ap, ap₂, ◌∙◌, subst, arith}
 use Rattle.std.proofs.Math.ListN.{get_or}
 use Rattle.std.proofs.lemmas.List.Elements.{All-head, All-tail, All-cons, All-nil}
+use Rattle.txn_base.specs.declared.disk.Disk.{Ghosts}
 use Rattle.txn_base.specs.declared.entry.TopicEntry.{TopicEntry}
 use Rattle.txn_base.specs.declared.limits.Limits.{Limits}
 use Rattle.txn_base.specs.declared.request.Request.{Request}
@@ -160,16 +161,16 @@ module _ (v v' : EngineView) (same : IsSameBut v v') where
         (subst (λ (l : Limits). AnswersAt l (RoseFor f g fs gs) (table_of v') r m (reply.No no.NoMemory) (table_of w)) same.limits (may.instead long));
   }
 
-module _ {D : Type 0} (moment : D → ℕ) (image : D → Files → Type 0) (left_since : D → ℕ → Files → Type 0) (seen : D → Files) (faults : D → ℕ) (part_faults : D → ℕ → ℕ) where
+module _ {D : Type 0} (on : Ghosts D) where
   -- room that is reserved
-  pub goes_same : (X : Type 0) → (X → ⊥) → (v v' : EngineView) (disk : D) → IsWhole v → IsBacked (image disk) v → IsSameBut v v' → Goes moment image left_since seen faults part_faults X v v' disk disk
+  pub goes_same : (X : Type 0) → (X → ⊥) → (v v' : EngineView) (disk : D) → IsWhole v → IsBacked (on.image disk) v → IsSameBut v v' → Goes on X v v' disk disk
   goes_same X none v v' disk whole backed same = record {
     names = same.names;
     whole = inl (same_whole v v' same whole);
     tied = same_tied v v' same;
-    backed = same_backed v v' same (image disk) backed;
-    images = started moment image left_since disk (KeepsAboveIf (IsTied v) v.names) (λ c at tied floor above. above);
-    elsewhere = started moment image left_since disk (OnlyLedgers (length v.names)) (λ c at file apart. refl);
+    backed = same_backed v v' same (on.image disk) backed;
+    images = started on disk (KeepsAboveIf (IsTied v) v.names) (λ c at tied floor above. above);
+    elsewhere = started on disk (OnlyLedgers (length v.names)) (λ c at file apart. refl);
     others = λ file apart. refl;
-    cause = counts_still (length v.names) (faults disk) (part_faults disk) X none;
+    cause = counts_still (length v.names) (on.faults disk) (on.part_faults disk) X none;
   }

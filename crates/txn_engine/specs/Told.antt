@@ -5,7 +5,8 @@ use Rattle.txn_base.specs.declared.request.Request.TheVariants as request
 use Rattle.txn_base.specs.declared.reply.Reply.{Reply}
 use Rattle.txn_base.specs.declared.reply.Reply.TheVariants as reply
 use Rattle.txn_base.specs.declared.reply.Refusal.TheVariants as no
-use Rattle.txn_base.specs.Disk.{Files, Since}
+use Rattle.txn_base.specs.declared.disk.Disk.{Ghosts}
+use Rattle.txn_base.specs.Moves.{After}
 use Rattle.txn_base.specs.Outside.{Rose}
 use Rattle.txn_model.specs.Answers.{AnswersAt}
 use Rattle.txn_wire.specs.Short.{IsShort, is_long}
@@ -35,6 +36,11 @@ pub record MayTell (before now : ℕ) (parts_before parts_now : ℕ → ℕ) (v 
   pub answers : AnswersAt v.limits (RoseFor before now parts_before parts_now) (table_of v) r m told (table_of v')
   pub instead : is_long told ≡ true → AnswersAt v.limits (RoseFor before now parts_before parts_now) (table_of v) r m (reply.No no.NoMemory) (table_of v')
 
+-- The same between two disks, by their counts.
+abbrev pub MayTellOn : {D : Type 0} → Ghosts D → D → D → EngineView → Request → ℕ → Reply → EngineView → Type 0
+MayTellOn disk old new v r m told v' =
+    MayTell (disk.faults old) (disk.faults new) (disk.part_faults old) (disk.part_faults new) v r m told v'
+
 -- A reply has a long text, or one within the room.
 abbrev pub IsTellable : Reply → Type 0
 IsTellable r = is_long r ≡ false → IsShort r
@@ -47,15 +53,20 @@ pub record CountsWithin (n before now : ℕ) (parts_before parts_now : ℕ → �
   pub failed : is_fault → (p : ℕ) × (p ≤ n) × RoseFor before now parts_before parts_now p
   pub others : (p : ℕ) → n < p → p < 128 → parts_now p ≡ parts_before p
 
+-- The same between two disks, by their counts.
+abbrev pub FaultsWithin : {D : Type 0} → Ghosts D → ℕ → D → D → Type 0 → Type 0
+FaultsWithin disk n old new is_fault =
+    CountsWithin n (disk.faults old) (disk.faults new) (disk.part_faults old) (disk.part_faults new) is_fault
+
 -- From v to v', over these disks, all that was rebuilt stays so, or a fault is told; what is rebuilt stays tied to the
 -- ledgers, and they to each image; whatever world each image at the call extends soundly, each image since does; and no
 -- file but the ledgers of the engine changes, as it reads and in each image.
-pub record Goes {D : Type 0} (moment : D → ℕ) (image : D → Files → Type 0) (left_since : D → ℕ → Files → Type 0) (seen : D → Files) (faults : D → ℕ) (part_faults : D → ℕ → ℕ) (is_fault : Type 0) (v v' : EngineView) (old new : D) : Type 0 where
+pub record Goes {D : Type 0} (disk : Ghosts D) (is_fault : Type 0) (v v' : EngineView) (old new : D) : Type 0 where
   pub names : v'.names ≡ v.names
   pub whole : IsWhole v' ⊎ is_fault
   pub tied : IsTied v → IsTied v'
-  pub backed : IsBacked (image new) v'
-  pub images : Since moment image left_since (KeepsAboveIf (IsTied v) v.names) old new
-  pub elsewhere : Since moment image left_since (OnlyLedgers (length v.names)) old new
-  pub others : OnlyLedgers (length v.names) (seen old) (seen new)
-  pub cause : CountsWithin (length v.names) (faults old) (faults new) (part_faults old) (part_faults new) is_fault
+  pub backed : IsBacked (disk.image new) v'
+  pub images : After disk (KeepsAboveIf (IsTied v) v.names) old new
+  pub elsewhere : After disk (OnlyLedgers (length v.names)) old new
+  pub others : OnlyLedgers (length v.names) (disk.seen old) (disk.seen new)
+  pub cause : FaultsWithin disk (length v.names) old new is_fault

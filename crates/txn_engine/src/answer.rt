@@ -1,17 +1,16 @@
 //! The answer to one request.
 ghost use Rattle.std.specs.Prelude.{◌≡◌, ◌⊎◌, ℕ, List, true, false, length, Some, IfSome};
-ghost use Rattle.txn_base.specs.Disk.{Files, Since};
+ghost use Rattle.txn_base.specs.Disk.{Files};
+ghost use Rattle.txn_base.specs.Moves.{RoseIn};
 ghost use Rattle.txn_base.specs.declared.reply.Reply.TheVariants as reply;
 ghost use Rattle.txn_base.specs.declared.reply.Refusal.TheVariants as no;
 ghost use Rattle.txn_base.specs.declared.reply.Refusal.{Refusal};
-ghost use Rattle.txn_engine.specs.Above.{KeepsAboveIf};
 ghost use Rattle.txn_engine.specs.Causes.{first_row, IsByRow, TellsEarly};
 ghost use Rattle.txn_engine.specs.Damage.{IsDamageIn};
 ghost use Rattle.txn_engine.specs.Faults.{fault_name, RoseByName};
-ghost use Rattle.txn_engine.specs.Files.{OnlyLedgers};
 ghost use Rattle.txn_engine.specs.Kept.{IsEngine};
 ghost use Rattle.txn_engine.specs.Table.{table_of, world_of};
-ghost use Rattle.txn_engine.specs.Told.{IsAsked, RoseFor, CountsWithin, IsTellable};
+ghost use Rattle.txn_engine.specs.Told.{IsAsked, IsTellable, Goes};
 ghost use Rattle.txn_engine.specs.View.{IsWhole, IsTied, IsBacked};
 ghost use Rattle.txn_model.specs.declared.world.World.{World};
 ghost use Rattle.txn_model.specs.Answers.{AnswersAt, moved};
@@ -38,8 +37,8 @@ impl Engine {
         requires backed { IsBacked (D.image disk.old) self.old }
 
         // The reply is one of the table's, and leaves its state.
-        ensures answers { D.tells → IsTied self.old → AnswersAt self.old.limits (RoseFor (D.faults disk.old) (D.faults disk.new) (D.part_faults disk.old) (D.part_faults disk.new)) (table_of self.old) request.now now result (table_of self.new) }
-        ensures instead { D.tells → IsTied self.old → is_long result ≡ true → AnswersAt self.old.limits (RoseFor (D.faults disk.old) (D.faults disk.new) (D.part_faults disk.old) (D.part_faults disk.new)) (table_of self.old) request.now now (reply.No no.NoMemory) (table_of self.new) }
+        ensures answers { D.tells → IsTied self.old → AnswersAt self.old.limits (RoseIn D.Disk disk.old disk.new) (table_of self.old) request.now now result (table_of self.new) }
+        ensures instead { D.tells → IsTied self.old → is_long result ≡ true → AnswersAt self.old.limits (RoseIn D.Disk disk.old disk.new) (table_of self.old) request.now now (reply.No no.NoMemory) (table_of self.new) }
 
         // A refusal by a row is told where that row is the first that comes, and nowhere else. Want of memory may be told in its
         // place.
@@ -56,26 +55,19 @@ impl Engine {
         ensures damaged { (part : List ℕ) (place : ℕ) → result ≡ reply.No (no.Damaged part place) → IsDamageIn D.tells self.old request.now part place }
 
         // A fault names the coordinator or the part whose count rose.
-        ensures named { IfSome (fault_name result) (RoseByName self.old.names (RoseFor (D.faults disk.old) (D.faults disk.new) (D.part_faults disk.old) (D.part_faults disk.new))) }
+        ensures named { IfSome (fault_name result) (RoseByName self.old.names (RoseIn D.Disk disk.old disk.new)) }
 
         ensures tellable { IsTellable result }
-        ensures names { self.new.names ≡ self.old.names }
         ensures limits { self.new.limits ≡ self.old.limits }
         ensures kept { IsEngine self.new }
-        ensures whole { IsWhole self.new ⊎ (is_fault result ≡ true) }
-        ensures tied { IsTied self.old → IsTied self.new }
-        ensures backed { IsBacked (D.image disk.new) self.new }
 
-        // Whatever world each image at the call extends soundly, each image at any moment since does.
-        ensures images { Since D.moment D.image D.left_since (KeepsAboveIf (IsTied self.old) self.old.names) disk.old disk.new }
-
-        // No file but the ledgers of these parts changes, in each image at any moment since and as it reads.
-        ensures elsewhere { Since D.moment D.image D.left_since (OnlyLedgers (length self.old.names)) disk.old disk.new }
-        ensures others { OnlyLedgers (length self.old.names) (D.seen disk.old) (D.seen disk.new) }
+        // What was rebuilt stays so, or a fault is told. Whatever world each image at the call extends soundly, each image at any
+        // moment since does; no file but the ledgers of these parts changes, as it reads and in each image; and the counts rose
+        // where a fault is told.
+        ensures goes { Goes D.Disk (is_fault result ≡ true) self.old self.new disk.old disk.new }
 
         // Whatever a stop leaves afterwards is what the table keeps of one: each batch in flight whole or not at all.
         ensures leaves { (c : Files) (w : World) → D.image disk.new c → StandsFor self.new.names c w → StandsForKept self.new.names c (table_of self.new).world (table_of self.new).flights }
-        ensures cause { CountsWithin (length self.old.names) (D.faults disk.old) (D.faults disk.new) (D.part_faults disk.old) (D.part_faults disk.new) (is_fault result ≡ true) }
     {
         let reply = self.reply_to(disk, now, request, steps);
         self.kept();
@@ -94,22 +86,14 @@ impl Engine {
         requires asked { IsAsked request.now }
         requires backed { IsBacked (D.image disk.old) self.old }
 
-        ensures answers { D.tells → IsTied self.old → AnswersAt self.old.limits (RoseFor (D.faults disk.old) (D.faults disk.new) (D.part_faults disk.old) (D.part_faults disk.new)) (table_of self.old) request.now now result (table_of self.new) }
-        ensures instead { D.tells → IsTied self.old → is_long result ≡ true → AnswersAt self.old.limits (RoseFor (D.faults disk.old) (D.faults disk.new) (D.part_faults disk.old) (D.part_faults disk.new)) (table_of self.old) request.now now (reply.No no.NoMemory) (table_of self.new) }
+        ensures answers { D.tells → IsTied self.old → AnswersAt self.old.limits (RoseIn D.Disk disk.old disk.new) (table_of self.old) request.now now result (table_of self.new) }
+        ensures instead { D.tells → IsTied self.old → is_long result ≡ true → AnswersAt self.old.limits (RoseIn D.Disk disk.old disk.new) (table_of self.old) request.now now (reply.No no.NoMemory) (table_of self.new) }
         ensures damaged { (part : List ℕ) (place : ℕ) → result ≡ reply.No (no.Damaged part place) → IsDamageIn D.tells self.old request.now part place }
-        ensures named { IfSome (fault_name result) (RoseByName self.old.names (RoseFor (D.faults disk.old) (D.faults disk.new) (D.part_faults disk.old) (D.part_faults disk.new))) }
+        ensures named { IfSome (fault_name result) (RoseByName self.old.names (RoseIn D.Disk disk.old disk.new)) }
         ensures early { TellsEarly self.old.limits (world_of self.old) request.now result }
         ensures tellable { IsTellable result }
-        ensures names { self.new.names ≡ self.old.names }
         ensures limits { self.new.limits ≡ self.old.limits }
-        ensures whole { IsWhole self.new ⊎ (is_fault result ≡ true) }
-        ensures tied { IsTied self.old → IsTied self.new }
-        ensures backed { IsBacked (D.image disk.new) self.new }
-
-        ensures images { Since D.moment D.image D.left_since (KeepsAboveIf (IsTied self.old) self.old.names) disk.old disk.new }
-        ensures elsewhere { Since D.moment D.image D.left_since (OnlyLedgers (length self.old.names)) disk.old disk.new }
-        ensures others { OnlyLedgers (length self.old.names) (D.seen disk.old) (D.seen disk.new) }
-        ensures cause { CountsWithin (length self.old.names) (D.faults disk.old) (D.faults disk.new) (D.part_faults disk.old) (D.part_faults disk.new) (is_fault result ≡ true) }
+        ensures goes { Goes D.Disk (is_fault result ≡ true) self.old self.new disk.old disk.new }
     {
         match request {
             Request::New { timeout } => self.begin(disk, now, *timeout),

@@ -1,12 +1,13 @@
 //! Beginning a transaction, adding a part to one, and its status.
 ghost use Rattle.std.specs.Prelude.{◌≡◌, ◌≤◌, ℕ, true, false, None, IfSome};
+ghost use Rattle.txn_base.specs.Moves.{RoseIn};
 ghost use Rattle.txn_base.specs.declared.request.Request.TheVariants as request;
 ghost use Rattle.txn_engine.specs.Causes.{TellsEarly};
 ghost use Rattle.txn_engine.specs.Damage.{is_damage};
 ghost use Rattle.txn_engine.specs.Faults.{fault_name, RoseByName};
 ghost use Rattle.txn_engine.specs.Refusals.{begun_reply, added_reply};
 ghost use Rattle.txn_engine.specs.Table.{world_of};
-ghost use Rattle.txn_engine.specs.Told.{MayTell, IsTellable, RoseFor, Goes};
+ghost use Rattle.txn_engine.specs.Told.{MayTell, IsTellable, Goes, MayTellOn};
 ghost use Rattle.txn_engine.specs.View.{IsWhole, IsTied, IsBacked};
 ghost use Rattle.txn_model.specs.EarlyRows.{is_bad_timeout};
 ghost use Rattle.txn_model.specs.Replies.{is_fault};
@@ -25,13 +26,13 @@ impl Engine {
     pub(crate) fn begin<D: Disk>(&mut self, disk: &mut D, now: u64, timeout: u64) -> Reply
         requires whole { IsWhole self.old }
         requires backed { IsBacked (D.image disk.old) self.old }
-        ensures told { D.tells → IsTied self.old → MayTell (D.faults disk.old) (D.faults disk.new) (D.part_faults disk.old) (D.part_faults disk.new) self.old (request.New timeout) now result self.new }
+        ensures told { D.tells → IsTied self.old → MayTellOn D.Disk disk.old disk.new self.old (request.New timeout) now result self.new }
         ensures tellable { IsTellable result }
         ensures early { TellsEarly self.old.limits (world_of self.old) (request.New timeout) result }
         ensures undamaged { is_damage result ≡ false }
-        ensures named { IfSome (fault_name result) (RoseByName self.old.names (RoseFor (D.faults disk.old) (D.faults disk.new) (D.part_faults disk.old) (D.part_faults disk.new))) }
+        ensures named { IfSome (fault_name result) (RoseByName self.old.names (RoseIn D.Disk disk.old disk.new)) }
         ensures limits { self.new.limits ≡ self.old.limits }
-        ensures goes { Goes D.moment D.image D.left_since D.seen D.faults D.part_faults (is_fault result ≡ true) self.old self.new disk.old disk.new }
+        ensures goes { Goes D.Disk (is_fault result ≡ true) self.old self.new disk.old disk.new }
     {
         self.latest = self.latest.max(now.min(LAST));
         if is_bad_timeout(timeout) {
@@ -50,13 +51,13 @@ impl Engine {
     pub(crate) fn add<D: Disk>(&mut self, disk: &mut D, txn: TxnId, part: &Text) -> Reply
         requires whole { IsWhole self.old }
         requires backed { IsBacked (D.image disk.old) self.old }
-        ensures told { D.tells → IsTied self.old → (now : ℕ) → MayTell (D.faults disk.old) (D.faults disk.new) (D.part_faults disk.old) (D.part_faults disk.new) self.old (request.Add txn part.now) now result self.new }
+        ensures told { D.tells → IsTied self.old → (now : ℕ) → MayTellOn D.Disk disk.old disk.new self.old (request.Add txn part.now) now result self.new }
         ensures tellable { IsTellable result }
         ensures early { TellsEarly self.old.limits (world_of self.old) (request.Add txn part.now) result }
         ensures undamaged { is_damage result ≡ false }
-        ensures named { IfSome (fault_name result) (RoseByName self.old.names (RoseFor (D.faults disk.old) (D.faults disk.new) (D.part_faults disk.old) (D.part_faults disk.new))) }
+        ensures named { IfSome (fault_name result) (RoseByName self.old.names (RoseIn D.Disk disk.old disk.new)) }
         ensures limits { self.new.limits ≡ self.old.limits }
-        ensures goes { Goes D.moment D.image D.left_since D.seen D.faults D.part_faults (is_fault result ≡ true) self.old self.new disk.old disk.new }
+        ensures goes { Goes D.Disk (is_fault result ≡ true) self.old self.new disk.old disk.new }
     {
         let Some(number) = part_of(&self.names, part) else {
             return unknown_part(part);

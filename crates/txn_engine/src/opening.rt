@@ -1,8 +1,8 @@
 //! Opening all ledgers of a disk.
 ghost use Rattle.std.specs.Prelude.{◌≡◌, ℕ, List, Err, All, length, true, IfOk};
-ghost use Rattle.txn_base.specs.Disk.{Since};
 ghost use Rattle.txn_base.specs.Limits.{InRange};
 ghost use Rattle.txn_base.specs.Names.{is_topic_name};
+ghost use Rattle.txn_base.specs.Moves.{After};
 ghost use Rattle.txn_base.specs.declared.file_id.FileId.{FileId};
 ghost use Rattle.txn_model.specs.declared.world.World.{World};
 ghost use Rattle.txn_model.specs.Names.{NamesLawful};
@@ -12,7 +12,7 @@ ghost use Rattle.txn_engine.specs.Files.{OnlyLedgers};
 ghost use Rattle.txn_engine.specs.Kept.{IsEngine};
 ghost use Rattle.txn_engine.specs.Opening.{AreParts, IsFirstDamage, IsPartFile, KeepsLists, KeepsAllDamaged, KeepsWorld};
 ghost use Rattle.txn_engine.specs.Table.{table_of};
-ghost use Rattle.txn_engine.specs.Told.{CountsWithin};
+ghost use Rattle.txn_engine.specs.Told.{FaultsWithin};
 ghost use Rattle.txn_engine.specs.View.{IsWhole, IsTied, IsBacked};
 
 use crate::engine::Engine;
@@ -67,13 +67,13 @@ impl Engine {
         ensures uncut { D.tells → KeepsAllDamaged (D.seen disk.old) (D.seen disk.new) }
 
         // What each file stood for, it stands for in each image at any moment since, whether another is damaged or not.
-        ensures lists { Since D.moment D.image D.left_since KeepsLists disk.old disk.new }
-        ensures images { Since D.moment D.image D.left_since (KeepsWorld names.items) disk.old disk.new }
+        ensures lists { After D.Disk KeepsLists disk.old disk.new }
+        ensures images { After D.Disk (KeepsWorld names.items) disk.old disk.new }
 
         // No file but the ledgers of these parts changes, in each image at any moment since and as it reads.
-        ensures elsewhere { Since D.moment D.image D.left_since (OnlyLedgers (length names.items)) disk.old disk.new }
+        ensures elsewhere { After D.Disk (OnlyLedgers (length names.items)) disk.old disk.new }
         ensures others { OnlyLedgers (length names.items) (D.seen disk.old) (D.seen disk.new) }
-        ensures cause { CountsWithin (length names.items) (D.faults disk.old) (D.faults disk.new) (D.part_faults disk.old) (D.part_faults disk.new) (result ≡ Err EngineError.Fault) }
+        ensures cause { FaultsWithin D.Disk (length names.items) disk.old disk.new (result ≡ Err EngineError.Fault) }
     {
         let named = names.len() as u32;
         let coordinator = open_coordinator(alloc, named, limits, disk, steps)?;

@@ -4,7 +4,8 @@ ghost use Rattle.std.specs.Int.{bit_at};
 ghost use Rattle.std.specs.List.{list_any};
 ghost use Rattle.txn_base.specs.Bytes.{contents_of};
 ghost use Rattle.txn_base.specs.Content.{Backed, Appends};
-ghost use Rattle.txn_base.specs.Disk.{Elsewhere, Since, CountsFaults};
+ghost use Rattle.txn_base.specs.Disk.{Elsewhere};
+ghost use Rattle.txn_base.specs.Moves.{FaultsIn, RoseIn, After};
 ghost use Rattle.txn_base.specs.declared.request.Request.TheVariants as request;
 ghost use Rattle.txn_buffer.specs.Adding.{AreBodies, messages_of, IsUnmarked};
 ghost use Rattle.txn_buffer.specs.View.{IsFrontOf, batch_of, total_of, with_entries, fenced};
@@ -17,7 +18,7 @@ ghost use Rattle.txn_engine.specs.Faults.{fault_name, RoseByName};
 ghost use Rattle.txn_engine.specs.Publishing.{foreign, why_not_in, why_refusal, publish_reply};
 ghost use Rattle.txn_model.specs.Skeletons.{coord_skeletons, topic_skeletons};
 ghost use Rattle.txn_engine.specs.Table.{world_of};
-ghost use Rattle.txn_engine.specs.Told.{MayTell, IsTellable, RoseFor, Goes};
+ghost use Rattle.txn_engine.specs.Told.{IsTellable, Goes, MayTellOn};
 ghost use Rattle.txn_engine.specs.View.{IsWhole, IsTied, IsBacked};
 ghost use Rattle.txn_model.specs.EarlyRows.{are_too_big};
 ghost use Rattle.txn_model.specs.Replies.{is_fault};
@@ -41,13 +42,13 @@ impl Engine {
         requires whole { IsWhole self.old }
         requires some { 1 ≤ length bodies.now }
         requires backed { IsBacked (D.image disk.old) self.old }
-        ensures told { D.tells → IsTied self.old → (now : ℕ) → MayTell (D.faults disk.old) (D.faults disk.new) (D.part_faults disk.old) (D.part_faults disk.new) self.old (request.Publish topic.now txn bodies.now) now result self.new }
+        ensures told { D.tells → IsTied self.old → (now : ℕ) → MayTellOn D.Disk disk.old disk.new self.old (request.Publish topic.now txn bodies.now) now result self.new }
         ensures tellable { IsTellable result }
         ensures early { TellsEarly self.old.limits (world_of self.old) (request.Publish topic.now txn bodies.now) result }
         ensures undamaged { is_damage result ≡ false }
-        ensures named { IfSome (fault_name result) (RoseByName self.old.names (RoseFor (D.faults disk.old) (D.faults disk.new) (D.part_faults disk.old) (D.part_faults disk.new))) }
+        ensures named { IfSome (fault_name result) (RoseByName self.old.names (RoseIn D.Disk disk.old disk.new)) }
         ensures limits { self.new.limits ≡ self.old.limits }
-        ensures goes { Goes D.moment D.image D.left_since D.seen D.faults D.part_faults (is_fault result ≡ true) self.old self.new disk.old disk.new }
+        ensures goes { Goes D.Disk (is_fault result ≡ true) self.old self.new disk.old disk.new }
     {
         let Some(number) = part_of(&self.names, topic) else {
             return unknown_part(topic);
@@ -176,9 +177,9 @@ fn add_messages<D: Disk>(
     ensures no_memory { result ≡ Err TopicError.NoMemory → (topic.new ≡ topic.old) × (disk.new ≡ disk.old) }
     ensures tied { IsFrontOf topic.old → IsFrontOf topic.new }
     ensures backed { Backed StandsIn (D.image disk.new) topic.new.content }
-    ensures images { Since D.moment D.image D.left_since (Appends IsFile StandsIn topic.old.content (batch_of (messages_of txn (contents_of bodies.now)))) disk.old disk.new }
+    ensures images { After D.Disk (Appends IsFile StandsIn topic.old.content (batch_of (messages_of txn (contents_of bodies.now)))) disk.old disk.new }
     ensures others { Elsewhere topic.old.content.key (D.seen disk.old) (D.seen disk.new) }
-    ensures cause { CountsFaults topic.old.content.key.part (D.faults disk.old) (D.faults disk.new) (D.part_faults disk.old) (D.part_faults disk.new) (result ≡ Err TopicError.Fault) }
+    ensures cause { FaultsIn D.Disk topic.old.content.key.part disk.old disk.new (result ≡ Err TopicError.Fault) }
 {
     match txn {
         None => topic.publish(disk, bodies),

@@ -1,5 +1,6 @@
 //! Reading visible messages of a topic.
 ghost use Rattle.std.specs.Prelude.{◌≡◌, ◌≤◌, ℕ, List, true, IfSome};
+ghost use Rattle.txn_base.specs.Moves.{RoseIn};
 ghost use Rattle.txn_base.specs.declared.request.Request.TheVariants as request;
 ghost use Rattle.txn_base.specs.declared.reply.Reply.TheVariants as reply;
 ghost use Rattle.txn_base.specs.declared.reply.Refusal.TheVariants as no;
@@ -7,7 +8,7 @@ ghost use Rattle.txn_engine.specs.Causes.{TellsEarly};
 ghost use Rattle.txn_engine.specs.Damage.{IsDamageIn};
 ghost use Rattle.txn_engine.specs.Faults.{fault_name, RoseByName};
 ghost use Rattle.txn_engine.specs.Table.{world_of};
-ghost use Rattle.txn_engine.specs.Told.{MayTell, IsTellable, RoseFor, Goes};
+ghost use Rattle.txn_engine.specs.Told.{IsTellable, Goes, MayTellOn};
 ghost use Rattle.txn_engine.specs.View.{IsWhole, IsTied, IsBacked};
 ghost use Rattle.txn_model.specs.Replies.{is_fault};
 
@@ -30,12 +31,12 @@ impl Engine {
         requires whole { IsWhole self.now }
         requires some { 1 ≤ max }
         requires backed { IsBacked (D.image disk.old) self.now }
-        ensures told { D.tells → IsTied self.now → (now : ℕ) → MayTell (D.faults disk.old) (D.faults disk.new) (D.part_faults disk.old) (D.part_faults disk.new) self.now (request.Read topic.now first max) now result self.now }
+        ensures told { D.tells → IsTied self.now → (now : ℕ) → MayTellOn D.Disk disk.old disk.new self.now (request.Read topic.now first max) now result self.now }
         ensures tellable { IsTellable result }
         ensures early { TellsEarly self.now.limits (world_of self.now) (request.Read topic.now first max) result }
         ensures damaged { (part : List ℕ) (place : ℕ) → result ≡ reply.No (no.Damaged part place) → IsDamageIn D.tells self.now (request.Read topic.now first max) part place }
-        ensures named { IfSome (fault_name result) (RoseByName self.now.names (RoseFor (D.faults disk.old) (D.faults disk.new) (D.part_faults disk.old) (D.part_faults disk.new))) }
-        ensures goes { Goes D.moment D.image D.left_since D.seen D.faults D.part_faults (is_fault result ≡ true) self.now self.now disk.old disk.new }
+        ensures named { IfSome (fault_name result) (RoseByName self.now.names (RoseIn D.Disk disk.old disk.new)) }
+        ensures goes { Goes D.Disk (is_fault result ≡ true) self.now self.now disk.old disk.new }
     {
         let Some(number) = part_of(&self.names, topic) else {
             return unknown_part(topic);

@@ -1,20 +1,18 @@
 //! A disk of real files in a folder. It tells nothing of what it holds.
 ghost use Rattle.std.specs.Prelude.{[]};
-ghost use Rattle.txn_files.specs.Counts.{part_count};
+ghost use Rattle.txn_base.specs.FaultCounts.{part_count};
 
-use crate::calls::Calls;
-use crate::counts::Counts;
 use crate::file::Purpose;
 use crate::files::{FolderFiles, MAX_SIZE};
 use std::alloc::{AllocError, Global};
 use std::fs::{File, Files};
-use txn_base::{Disk, Failed, FileId, Text};
+use txn_base::{Calls, Disk, Failed, FaultCounts, FileId, Text};
 
 /// A folder of files, one for each file of the disk, with the counts of failed calls.
 #[derive(Drop)]
 pub struct FolderDisk<R: Files<File = File> + Drop> {
     files: FolderFiles<R>,
-    counts: Counts,
+    counts: FaultCounts,
     calls: Calls,
 }
 
@@ -24,7 +22,7 @@ impl<R: Files<File = File> + Drop> FolderDisk<R> {
     pub fn new(alloc: Global, files: R, path: Text, bound: usize) -> Result<Self, AllocError> {
         Ok(FolderDisk {
             files: FolderFiles::new(alloc, files, path, Purpose::Writing, bound)?,
-            counts: Counts::new(),
+            counts: FaultCounts::new(),
             calls: Calls { all: 0, writes: 0 },
         })
     }
@@ -39,7 +37,7 @@ impl<R: Files<File = File> + Drop> FolderDisk<R> {
     ) -> Result<Self, AllocError> {
         Ok(FolderDisk {
             files: FolderFiles::new(alloc, files, path, Purpose::Reading, bound)?,
-            counts: Counts::new(),
+            counts: FaultCounts::new(),
             calls: Calls { all: 0, writes: 0 },
         })
     }
@@ -78,10 +76,7 @@ impl<R: Files<File = File> + Drop> Disk for FolderDisk<R> {
         self.calls.look();
         match self.files.size_of(file) {
             Ok(size) if size <= MAX_SIZE => Ok(size),
-            _ => {
-                self.counts.rise(file.part);
-                Err(Failed)
-            }
+            _ => Err(self.counts.rise(file.part)),
         }
     }
 
@@ -89,10 +84,7 @@ impl<R: Files<File = File> + Drop> Disk for FolderDisk<R> {
         self.calls.look();
         match self.files.read_into(file, offset, into) {
             Ok(()) => Ok(()),
-            Err(_) => {
-                self.counts.rise(file.part);
-                Err(Failed)
-            }
+            Err(_) => Err(self.counts.rise(file.part)),
         }
     }
 
@@ -100,10 +92,7 @@ impl<R: Files<File = File> + Drop> Disk for FolderDisk<R> {
         self.calls.write();
         match self.files.write_into(file, offset, bytes) {
             Ok(()) => Ok(()),
-            Err(_) => {
-                self.counts.rise(file.part);
-                Err(Failed)
-            }
+            Err(_) => Err(self.counts.rise(file.part)),
         }
     }
 
@@ -111,10 +100,7 @@ impl<R: Files<File = File> + Drop> Disk for FolderDisk<R> {
         self.calls.write();
         match self.files.resize_to(file, size) {
             Ok(()) if size <= MAX_SIZE => Ok(()),
-            _ => {
-                self.counts.rise(file.part);
-                Err(Failed)
-            }
+            _ => Err(self.counts.rise(file.part)),
         }
     }
 
@@ -122,10 +108,7 @@ impl<R: Files<File = File> + Drop> Disk for FolderDisk<R> {
         self.calls.write();
         match self.files.bring_to_disk(file) {
             Ok(()) => Ok(()),
-            Err(_) => {
-                self.counts.rise(file.part);
-                Err(Failed)
-            }
+            Err(_) => Err(self.counts.rise(file.part)),
         }
     }
 }

@@ -1,9 +1,7 @@
 //! The real outside: the files of a folder, standard input and output, and the system's clock.
 #![tactic(auto)]
 
-mod calls;
 mod clock;
-mod counts;
 mod disk;
 mod file;
 mod files;

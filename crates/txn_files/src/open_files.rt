@@ -23,8 +23,8 @@ struct Opened {
 /// is answered Ok again.
 #[derive(Drop)]
 pub struct OpenFiles {
-    kept: LruCache<(u32, u32), Opened>,
-    broken: HashSet<(u32, u32)>,
+    kept: LruCache<FileId, Opened>,
+    broken: HashSet<FileId>,
     all_broken: bool,
 }
 
@@ -41,7 +41,7 @@ impl OpenFiles {
 
     /// An error where the file is broken.
     pub fn test(&self, id: FileId) -> io::Result<()> {
-        if self.all_broken || (!self.broken.is_empty() && self.broken.contains(&key(id))) {
+        if self.all_broken || (!self.broken.is_empty() && self.broken.contains(&id)) {
             return Err(ErrorKind::Other.into());
         }
         Ok(())
@@ -49,12 +49,12 @@ impl OpenFiles {
 
     /// Whether a file is open. It is then the last to be closed.
     pub fn use_file(&mut self, id: FileId) -> bool {
-        self.kept.promote(&key(id))
+        self.kept.promote(&id)
     }
 
     /// The open file of this name.
     pub fn file(&self, id: FileId) -> io::Result<&File> {
-        match self.kept.peek(&key(id)) {
+        match self.kept.peek(&id) {
             Some(opened) => Ok(&opened.file),
             None => Err(ErrorKind::NotFound.into()),
         }
@@ -79,7 +79,7 @@ impl OpenFiles {
             file,
             pending: false,
         };
-        match self.kept.put(key(id), opened) {
+        match self.kept.put(id, opened) {
             Ok(_) => Ok(()),
             Err(_) => Err(ErrorKind::OutOfMemory.into()),
         }
@@ -87,7 +87,7 @@ impl OpenFiles {
 
     /// The open file of this name, which is about to be written.
     pub fn file_to_write(&mut self, id: FileId) -> io::Result<&File> {
-        match self.kept.get_mut(&key(id)) {
+        match self.kept.get_mut(&id) {
             Some(opened) => {
                 opened.pending = true;
                 Ok(&opened.file)
@@ -98,14 +98,14 @@ impl OpenFiles {
 
     /// Brings an open file to the disk. Where that fails the file is broken.
     pub fn sync(&mut self, id: FileId) -> io::Result<()> {
-        match self.kept.get_mut(&key(id)) {
+        match self.kept.get_mut(&id) {
             Some(opened) => match opened.file.sync_all() {
                 Ok(()) => {
                     opened.pending = false;
                     Ok(())
                 }
                 Err(e) => {
-                    self.break_file(key(id));
+                    self.break_file(id);
                     Err(e)
                 }
             },
@@ -114,13 +114,9 @@ impl OpenFiles {
     }
 
     /// A name that there is no memory to keep breaks all files.
-    fn break_file(&mut self, key: (u32, u32)) {
+    fn break_file(&mut self, key: FileId) {
         if self.broken.insert(key).is_err() {
             self.all_broken = true;
         }
     }
-}
-
-fn key(id: FileId) -> (u32, u32) {
-    (id.part, id.row)
 }

@@ -1,7 +1,9 @@
 -- What a batch's frame makes of a ledger's file.
 use Rattle.std.proofs.Common.{◌≡◌, ◌⊎◌, ℕ, List, [], ◌∷◌, ◌++◌, length, drop, subst, ap, ◌∙◌, sym}
+use Rattle.txn_base.specs.declared.disk.Disk.{Ghosts}
+use Rattle.txn_base.specs.Moves.{After}
 use Rattle.txn_base.specs.declared.file_id.FileId.{FileId}
-use Rattle.txn_base.specs.Disk.{Files, Changes, Since}
+use Rattle.txn_base.specs.Disk.{Files, Changes}
 use Rattle.txn_base.specs.Frames.{Batch, IsBatch, frames, behind_gate, Stands}
 use Rattle.txn_base.specs.Content.{LedgerContent, settled, landed, begun, Backed, Appends}
 use Rattle.txn_base.proofs.Laws.{settled_stands, weaker}
@@ -13,26 +15,26 @@ module _ (content : LedgerContent) (is_settled : content.standing ≡ settled) (
   pub closed : (image : Files → Type 0) → Backed StandsIn image content → (c : Files) → image c → IsClosedAt end (c file)
   closed image backed c at = subst (λ (f : FileId). IsClosedAt end (c f)) (sym is) (closed_of_stands content.batches end ends _ (settled_stands StandsIn image content is_settled backed c at))
 
-  module _ {D : Type 0} (moment : D → ℕ) (image : D → Files → Type 0) (left_since : D → ℕ → Files → Type 0)
-      (batch : Batch) (is_batch : IsBatch batch) (tail : List ℕ) (tail_is : tail ≡ behind_gate batch) (old new : D) (backed : Backed StandsIn (image old) content)
-      (since : Since moment image left_since (Changes file (MayOpen end tail)) old new) where
-    here : Since moment image left_since (Changes content.key (MayOpen end (behind_gate batch))) old new
-    here = subst (λ (f : FileId). Since moment image left_since (Changes f (MayOpen end (behind_gate batch))) old new) is
-        (subst (λ (l : List ℕ). Since moment image left_since (Changes file (MayOpen end l)) old new) tail_is since)
+  module _ {D : Type 0} (on : Ghosts D)
+      (batch : Batch) (is_batch : IsBatch batch) (tail : List ℕ) (tail_is : tail ≡ behind_gate batch) (old new : D) (backed : Backed StandsIn (on.image old) content)
+      (since : After on (Changes file (MayOpen end tail)) old new) where
+    here : After on (Changes content.key (MayOpen end (behind_gate batch))) old new
+    here = subst (λ (f : FileId). After on (Changes f (MayOpen end (behind_gate batch))) old new) is
+        (subst (λ (l : List ℕ). After on (Changes file (MayOpen end l)) old new) tail_is since)
 
-    before : (d : Files) → image old d → Stands (d content.key) content.batches
-    before d at = settled_stands StandsIn (image old) content is_settled backed d at
+    before : (d : Files) → on.image old d → Stands (d content.key) content.batches
+    before d at = settled_stands StandsIn (on.image old) content is_settled backed d at
 
-    either : (d c : Files) → image old d → MayOpen end (behind_gate batch) (d content.key) (c content.key) → Stands (c content.key) content.batches ⊎ Stands (c content.key) (content.batches ++ batch ∷ [])
+    either : (d c : Files) → on.image old d → MayOpen end (behind_gate batch) (d content.key) (c content.key) → Stands (c content.key) content.batches ⊎ Stands (c content.key) (content.batches ++ batch ∷ [])
     either d c at may = all_or_none content.batches end ends batch _ _ is_batch (before d at) may
 
-    pub appends : Since moment image left_since (Appends IsFile StandsIn content batch) old new
-    appends = weaker moment image left_since _ _ old new (λ d c at step. record { here = either d c at step.here; others = step.others }) here
+    pub appends : After on (Appends IsFile StandsIn content batch) old new
+    appends = weaker on _ _ old new (λ d c at step. record { here = either d c at step.here; others = step.others }) here
 
-    pub in_doubt : Backed StandsIn (image new) (begun content batch)
+    pub in_doubt : Backed StandsIn (on.image new) (begun content batch)
     in_doubt = record { each = λ c at. let d = here.at_end c at in either d.0 c d.1 d.2.here }
 
-    pub stands : ((c : Files) → image new c → drop end (c file) ≡ 1 ∷ tail) → Backed StandsIn (image new) (landed content batch)
+    pub stands : ((c : Files) → on.image new c → drop end (c file) ≡ 1 ∷ tail) → Backed StandsIn (on.image new) (landed content batch)
     stands opened = record {
       each = λ c at.
           let d = here.at_end c at in
@@ -41,7 +43,7 @@ module _ (content : LedgerContent) (is_settled : content.standing ≡ settled) (
     }
 
     -- and where the disk reads so, the file is just the frames
-    pub exact : (c : Files) → image new c → drop end (c file) ≡ 1 ∷ tail → ExactlyIn content.key c (landed content batch).batches
+    pub exact : (c : Files) → on.image new c → drop end (c file) ≡ 1 ∷ tail → ExactlyIn content.key c (landed content batch).batches
     exact c at opened =
         let d = here.at_end c at in
         let behind : drop end (c content.key) ≡ 1 ∷ behind_gate batch = subst (λ (f : FileId). drop end (c f) ≡ 1 ∷ behind_gate batch) is (opened ∙ ap (λ (l : List ℕ). 1 ∷ l) tail_is) in

@@ -1,12 +1,12 @@
 -- What became of a batch in flight.
 use Rattle.std.proofs.Common.{◌≡◌, ◌⊎◌, inl, inr, ⊎_elim, ℕ, ◌+◌, ◌-◌, ◌<◌, ◌≤◌, List, [], ◌∷◌, ◌++◌, length, drop, replicate, get_or, sym, ◌∙◌, ap, subst, arith, length-append, get_or-drop}
-use Rattle.std.proofs.lemmas.List.{drop_at, drop_more, append_assoc}
+use Rattle.std.proofs.lemmas.List.{drop_at, drop_more, append_assoc, append-nil}
 use Rattle.txn_base.specs.Disk.{OldOrResized}
 use Rattle.txn_base.specs.Frames.{Batch, IsBatch, frame, frames, behind_gate, Stands}
 use Rattle.txn_base.specs.Content.{Standing, settled, in_flight, looked_at, IsInFlight, KeptOrNot, with_flight}
 use Rattle.txn_ledger.specs.Tied.{IsSent}
 use Rattle.txn_ledger.proofs.Behind.{shut_gate}
-use Rattle.txn_ledger.proofs.Frames.{frames-push, front_is, closed_of_stands}
+use Rattle.txn_ledger.proofs.Frames.{frames-push, cut_is, closed_of_stands}
 
 -- such a frame stands behind the end
 abbrev pub IsWhole : ℕ → ℕ → List ℕ → Type 0
@@ -47,13 +47,19 @@ module _ (batches : List Batch) (end sent : ℕ) (ends : end ≡ length (frames 
   without looked_at x stands = stands
   without (in_flight flight) x stands = inl stands
 
+  -- and so may what stood with it
+  pub within : (standing : Standing) → IsInFlight standing → (x : List ℕ) → Stands x (with_flight batches standing) → KeptOrNot (Stands x) batches standing
+  within settled none x stands = absurd none
+  within looked_at none x stands = absurd none
+  within (in_flight flight) some x stands = inr stands
+
+  -- where its frame ends
+  pub kept_ends : (standing : Standing) → IsInFlight standing → IsSent standing sent → end + sent ≡ length (frames (with_flight batches standing))
+  kept_ends settled none is = absurd none
+  kept_ends looked_at none is = absurd none
+  kept_ends (in_flight flight) some is = omega (arith, ends, is.1, ap length (frames-push batches flight), length-append (frames batches) (frame flight))
+
   pub cut_stands : (x y : List ℕ) → Stands x batches → OldOrResized end x y → Stands y batches
   cut_stands x y stands (inl e) = subst (λ (z : List ℕ). Stands z batches) (sym e) stands
   cut_stands x y stands (inr e) =
-      let none : end - length x ≡ 0 = omega (arith, ends, ap length stands.split, length-append (frames batches) stands.rest) in
-      record {
-        each = stands.each;
-        rest = [];
-        split = e ∙ ap (λ (l : List ℕ). l ++ replicate (end - length x) 0) (front_is batches end ends x stands) ∙ ap (λ (n : ℕ). frames batches ++ replicate n 0) none;
-        shut = tt;
-      }
+      record { each = stands.each; rest = []; split = e ∙ cut_is batches end ends x stands ∙ sym (append-nil (frames batches)); shut = tt }

@@ -2,8 +2,10 @@
 use Rattle.std.proofs.Common.{◌≡◌, subst, ℕ, ◌+◌, ◌<◌, ◌^◌, List, [], ◌∷◌, ◌++◌, length, take, drop, sym, ap, ◌∙◌, arith, length-append}
 use Rattle.std.proofs.lemmas.List.{append_assoc, drop_at, drop-drop}
 use Rattle.txn_base.specs.declared.file_id.FileId.{FileId}
-use Rattle.txn_base.specs.Disk.{Files, Same, Changes, OldOrResized, Since}
+use Rattle.txn_base.specs.Disk.{Files, Same, Changes, OldOrResized}
 use Rattle.std.specs.Prelude.{All}
+use Rattle.txn_base.specs.declared.disk.Disk.{Ghosts}
+use Rattle.txn_base.specs.Moves.{After}
 use Rattle.byteorder.specs.Endian.{big_bytes}
 use Rattle.txn_base.specs.Frames.{Batch, IsBatch, IsDamagedAt, body_of, frame, frames, records, Stands}
 use Rattle.txn_base.proofs.Laws.{goes_on, stands_one, stands_not_damaged}
@@ -46,13 +48,13 @@ pub not_damaged : (file : FileId) (before seen after : Files) (batches : List Ba
 not_damaged file before seen after batches same stands = λ entry damaged. absurd (stands_not_damaged (before file) batches entry (subst (λ (f : Files). Stands (f file) batches) same stands) damaged)
 
 -- the calls that look at a file, and then cut it behind the frames that it was seen to have
-module _ {D : Type 0} (moment : D → ℕ) (image : D → Files → Type 0) (left_since : D → ℕ → Files → Type 0) (file : FileId) (old mid new : D) (looked : Since moment image left_since Same old mid)
-    (batches : List Batch) (end : ℕ) (ends : end ≡ length (frames batches)) (at : (e : Files) → image mid e → Stands (e file) batches) (cutting : Since moment image left_since (Changes file (OldOrResized end)) mid new) where
+module _ {D : Type 0} (on : Ghosts D) (file : FileId) (old mid new : D) (looked : After on Same old mid)
+    (batches : List Batch) (end : ℕ) (ends : end ≡ length (frames batches)) (at : (e : Files) → on.image mid e → Stands (e file) batches) (cutting : After on (Changes file (OldOrResized end)) mid new) where
   keeps : (d c : Files) → Same d c → Changes file KeepsList d c
   keeps d c same = record { here = λ batches stands. subst (λ (f : Files). Stands (f file) batches) (sym same) stands; others = λ other apart. ap (λ (f : Files). f other) same }
 
-  pub cut_keeps : Since moment image left_since (Changes file KeepsList) old new
-  cut_keeps = goes_on moment image left_since _ _ _ old mid new looked cutting (λ d c was same. keeps d c same)
+  pub cut_keeps : After on (Changes file KeepsList) old new
+  cut_keeps = goes_on on _ _ _ old mid new looked cutting (λ d c was same. keeps d c same)
       (λ d e c was same now step. record {
         here = λ others stands.
             let one : batches ≡ others = stands_one (e file) batches others (at e now) (subst (λ (f : Files). Stands (f file) others) (sym same) stands) in

@@ -1,7 +1,8 @@
 //! A gate is opened over a frame that is durable.
-ghost use Rattle.std.specs.Prelude.{◌≡◌, ◌+◌, ◌<◌, ◌∷◌, length, drop, OnOk};
-ghost use Rattle.txn_base.specs.Disk.{Files, Elsewhere, Changes, Only, Since, HasPartCause};
+ghost use Rattle.std.specs.Prelude.{◌≡◌, ◌+◌, ◌<◌, ◌≤◌, ◌∷◌, length, drop, OnOk};
+ghost use Rattle.txn_base.specs.Disk.{Files, Elsewhere, Changes, Only};
 ghost use Rattle.txn_base.specs.Outside.{counted};
+ghost use Rattle.txn_base.specs.Moves.{FailsIn, After};
 ghost use Rattle.txn_ledger.specs.Gate.{IsClosedAt, MayOpen};
 
 use txn_base::{Disk, Failed, FileId};
@@ -11,11 +12,12 @@ pub fn open_gate<D: Disk>(disk: &mut D, file: FileId, end: u64) -> Result<(), Fa
     requires closed { (c : Files) → D.image disk.old c → IsClosedAt end (c file) }
     requires durable { Only file (D.seen disk.old file) (D.image disk.old) }
     requires some { D.tells → end < length (D.seen disk.old file) }
-    ensures images { Since D.moment D.image D.left_since (Changes file (MayOpen end (drop (end + 1) (D.seen disk.old file)))) disk.old disk.new }
+    ensures images { After D.Disk (Changes file (MayOpen end (drop (end + 1) (D.seen disk.old file)))) disk.old disk.new }
     ensures opened { OnOk result ((c : Files) → D.image disk.new c → drop end (c file) ≡ 1 ∷ drop (end + 1) (D.seen disk.old file)) }
     ensures others { Elsewhere file (D.seen disk.old) (D.seen disk.new) }
-    ensures cause { HasPartCause file.part (D.faults disk.old) (D.faults disk.new) (D.part_faults disk.old) (D.part_faults disk.new) result }
+    ensures cause { FailsIn D.Disk file.part disk.old disk.new result }
     ensures calls { OnOk result (D.calls disk.new ≡ counted 2 (D.calls disk.old)) }
+    ensures few { D.calls disk.new ≤ counted 2 (D.calls disk.old) }
 {
     disk.write_at(file, end, &[1])?;
     disk.sync(file)?;

@@ -1,6 +1,7 @@
 //! A record of a file.
 ghost use Rattle.std.specs.Prelude.{◌≡◌, ◌+◌, ◌≤◌, Err, take, drop, length, IfOk};
-ghost use Rattle.txn_base.specs.Disk.{Same, Since, CountsFaults};
+ghost use Rattle.txn_base.specs.Disk.{Same};
+ghost use Rattle.txn_base.specs.Moves.{After, FaultsIn};
 
 use crate::GetError;
 use crate::position::Position;
@@ -17,8 +18,8 @@ pub fn read_record<D: Disk>(
     requires within { D.tells → position.offset + position.len ≤ length (D.seen disk.old file) }
     ensures found { D.tells → IfOk result (λ bytes. bytes.bytes ≡ take position.len (drop position.offset (D.seen disk.old file))) }
     ensures seen { D.seen disk.new ≡ D.seen disk.old }
-    ensures images { Since D.moment D.image D.left_since Same disk.old disk.new }
-    ensures cause { CountsFaults file.part (D.faults disk.old) (D.faults disk.new) (D.part_faults disk.old) (D.part_faults disk.new) (result ≡ Err GetError.Fault) }
+    ensures images { After D.Disk Same disk.old disk.new }
+    ensures cause { FaultsIn D.Disk file.part disk.old disk.new (result ≡ Err GetError.Fault) }
     ensures calls { D.calls disk.new ≤ D.calls disk.old + 1 }
     ensures writes { D.writes disk.new ≡ D.writes disk.old }
 {

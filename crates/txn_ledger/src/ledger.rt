@@ -1,8 +1,9 @@
 //! The ledger of one file.
 ghost use Rattle.std.specs.Prelude.{◌≡◌, ℕ, [], Err, IfOk};
 ghost use Rattle.txn_base.specs.Content.{settled, Backed};
-ghost use Rattle.txn_base.specs.Disk.{Elsewhere, Changes, Since, CountsFaults};
+ghost use Rattle.txn_base.specs.Disk.{Elsewhere, Changes};
 ghost use Rattle.txn_base.specs.Frames.{IsDamagedAt};
+ghost use Rattle.txn_base.specs.Moves.{After, FaultsIn};
 ghost use Rattle.txn_ledger.specs.Found.{KeepsList, KeepsDamaged};
 ghost use Rattle.txn_ledger.specs.Ledger.{ExactlyIn, StandsIn};
 
@@ -83,9 +84,9 @@ impl Ledger {
         ensures uncut { D.tells → KeepsDamaged (D.seen disk.old file) (D.seen disk.new file) }
 
         // Each image at any moment of the call stands for what an image at the call stood for.
-        ensures images { Since D.moment D.image D.left_since (Changes file KeepsList) disk.old disk.new }
+        ensures images { After D.Disk (Changes file KeepsList) disk.old disk.new }
         ensures others { Elsewhere file (D.seen disk.old) (D.seen disk.new) }
-        ensures cause { CountsFaults file.part (D.faults disk.old) (D.faults disk.new) (D.part_faults disk.old) (D.part_faults disk.new) (result ≡ Err OpenError.Fault) }
+        ensures cause { FaultsIn D.Disk file.part disk.old disk.new (result ≡ Err OpenError.Fault) }
     {
         let Found {
             carrier,

@@ -3,9 +3,10 @@ ghost use Rattle.std.specs.Prelude.{◌≡◌, ◌<◌, ◌≤◌, ◌+◌, ◌+
 ghost use Rattle.txn_base.specs.declared.file_id.FileId.{FileId};
 ghost use Rattle.txn_base.specs.Bytes.{contents_of};
 ghost use Rattle.txn_base.specs.Content.{LedgerContent, settled, landed, begun, IsInFlight, Backed, Appends, Settles};
-ghost use Rattle.txn_base.specs.Disk.{Files, Since, Same, HasPartCause, CountsFaults};
+ghost use Rattle.txn_base.specs.Disk.{Files, Same, ChangesOnly};
 ghost use Rattle.txn_base.specs.Outside.{counted};
 ghost use Rattle.txn_base.specs.Frames.{Batch, IsBatch, frame, records};
+ghost use Rattle.txn_base.specs.Moves.{After, FailsIn, FaultsIn};
 ghost use Rattle.txn_ledger.specs.Log.{settled_as};
 
 use std::alloc::{AllocError, Global};
@@ -68,7 +69,8 @@ pub trait RecordLog {
         ensures room_kept { room self.old ≤ room self.new }
         ensures content { content self.new ≡ content self.old };
 
-    /// Adds a batch, all of it or none, in room that was reserved. It takes no memory, and five calls of the disk.
+    /// Adds a batch, all of it or none, in room that was reserved. It takes no memory, and no more
+    /// than five calls of the disk; all five where it answers Ok.
     fn append<D: Disk>(&mut self, disk: &mut D, batch: &[Bytes]) -> Result<(), Failed>
         requires settled { (content self.old).standing ≡ settled }
         requires batch { IsBatch (contents_of batch.now) }
@@ -81,24 +83,27 @@ pub trait RecordLog {
         ensures spare { OnOk result (spare self.new + length batch.now ≡ spare self.old) }
         ensures room { room self.old ≤ room self.new }
         ensures backed { Backed stands (D.image disk.new) (content self.new) }
-        ensures images { Since D.moment D.image D.left_since (Appends mine stands (content self.old) (contents_of batch.now)) disk.old disk.new }
-        ensures others { (other : FileId) → (mine (content self.old).key other → ⊥) → D.seen disk.new other ≡ D.seen disk.old other }
-        ensures cause { HasPartCause (content self.old).key.part (D.faults disk.old) (D.faults disk.new) (D.part_faults disk.old) (D.part_faults disk.new) result }
-        ensures calls { OnOk result (D.calls disk.new ≡ counted 5 (D.calls disk.old)) };
+        ensures images { After D.Disk (Appends mine stands (content self.old) (contents_of batch.now)) disk.old disk.new }
+        ensures others { ChangesOnly (mine (content self.old).key) (D.seen disk.old) (D.seen disk.new) }
+        ensures cause { FailsIn D.Disk (content self.old).key.part disk.old disk.new result }
+        ensures calls { OnOk result (D.calls disk.new ≡ counted 5 (D.calls disk.old)) }
+        ensures few { D.calls disk.new ≤ counted 5 (D.calls disk.old) };
 
-    /// Finds out what became of a batch whose append failed, by its gate. It takes no memory.
+    /// Finds out what became of a batch whose append failed, by its gate, and cuts off what stands behind the batches that
+    /// count. It takes no memory.
     fn settle<D: Disk>(&mut self, disk: &mut D) -> Result<Settled, Failed>
         requires in_flight { IsInFlight (content self.old).standing }
         requires backed { Backed stands (D.image disk.old) (content self.old) }
         ensures ok { IfOk result (λ settled. content self.new ≡ settled_as settled (content self.old)) }
         ensures err { OnErr result (content self.new ≡ content self.old) }
 
+        ensures exact { D.tells → IfOk result (λ settled. exactly (content self.new).key (D.seen disk.new) (content self.new).batches) }
         // It is what the files stood for at the call.
         ensures found { D.tells → IfOk result (λ settled. stands (content self.old).key (D.seen disk.old) (settled_as settled (content self.old)).batches) }
         ensures backed { Backed stands (D.image disk.new) (content self.new) }
-        ensures images { Since D.moment D.image D.left_since (Settles mine stands (content self.old)) disk.old disk.new }
-        ensures others { (other : FileId) → (mine (content self.old).key other → ⊥) → D.seen disk.new other ≡ D.seen disk.old other }
-        ensures cause { HasPartCause (content self.old).key.part (D.faults disk.old) (D.faults disk.new) (D.part_faults disk.old) (D.part_faults disk.new) result };
+        ensures images { After D.Disk (Settles mine stands (content self.old)) disk.old disk.new }
+        ensures others { ChangesOnly (mine (content self.old).key) (D.seen disk.old) (D.seen disk.new) }
+        ensures cause { FailsIn D.Disk (content self.old).key.part disk.old disk.new result };
 
     /// A record. It may also be asked of a log that isn't settled. Each call counts as one record read.
     fn get<D: Disk, L: ledger::Ledger>(
@@ -113,8 +118,8 @@ pub trait RecordLog {
         ensures record { D.tells → IfOk result (λ bytes. bytes.bytes ≡ slice_index_or (records (content self.now).batches) place bytes.bytes) }
         ensures counted { steps.new ≡ steps.old + 1 }
         ensures seen { D.seen disk.new ≡ D.seen disk.old }
-        ensures images { Since D.moment D.image D.left_since Same disk.old disk.new }
-        ensures cause { CountsFaults (content self.now).key.part (D.faults disk.old) (D.faults disk.new) (D.part_faults disk.old) (D.part_faults disk.new) (result ≡ Err GetError.Fault) }
+        ensures images { After D.Disk Same disk.old disk.new }
+        ensures cause { FaultsIn D.Disk (content self.now).key.part disk.old disk.new (result ≡ Err GetError.Fault) }
         ensures calls { D.calls disk.new ≤ D.calls disk.old + 1 }
         ensures writes { D.writes disk.new ≡ D.writes disk.old };
 

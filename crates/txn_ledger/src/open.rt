@@ -1,8 +1,9 @@
 //! A file that a crash may have left is brought to its frames.
 ghost use Rattle.std.specs.Prelude.{◌≡◌, ℕ, Err, IfOk};
 ghost use Rattle.txn_base.specs.Content.{Backed};
-ghost use Rattle.txn_base.specs.Disk.{Elsewhere, Changes, Since, CountsFaults};
+ghost use Rattle.txn_base.specs.Disk.{Elsewhere, Changes};
 ghost use Rattle.txn_base.specs.Frames.{IsDamagedAt};
+ghost use Rattle.txn_base.specs.Moves.{After, FaultsIn};
 ghost use Rattle.txn_ledger.specs.Found.{KeepsList, KeepsDamaged};
 ghost use Rattle.txn_ledger.specs.Ledger.{ExactlyIn, StandsIn};
 ghost use Rattle.txn_ledger.specs.Tied.{IsScanned};
@@ -23,9 +24,9 @@ pub fn find<D: Disk>(alloc: Global, disk: &mut D, file: FileId) -> Result<Found,
     ensures exact { D.tells → IfOk result (λ found. ExactlyIn file (D.seen disk.new) found.carrier.content.batches) }
     ensures damaged { (entry : ℕ) → result ≡ Err (OpenError.Damaged entry) → D.tells → IsDamagedAt (D.seen disk.old file) entry }
     ensures uncut { D.tells → KeepsDamaged (D.seen disk.old file) (D.seen disk.new file) }
-    ensures images { Since D.moment D.image D.left_since (Changes file KeepsList) disk.old disk.new }
+    ensures images { After D.Disk (Changes file KeepsList) disk.old disk.new }
     ensures others { Elsewhere file (D.seen disk.old) (D.seen disk.new) }
-    ensures cause { CountsFaults file.part (D.faults disk.old) (D.faults disk.new) (D.part_faults disk.old) (D.part_faults disk.new) (result ≡ Err OpenError.Fault) }
+    ensures cause { FaultsIn D.Disk file.part disk.old disk.new (result ≡ Err OpenError.Fault) }
 {
     disk.sync(file)?;
     let size = disk.size(file)?;

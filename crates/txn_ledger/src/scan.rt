@@ -1,7 +1,8 @@
 //! The frames of a file, from its start to an end or a closed gate.
 ghost use Rattle.std.specs.Prelude.{◌≡◌, ◌-◌, ◌^◌, ◌≤◌, ℕ, Err, length, drop, IfOk, OnOk};
-ghost use Rattle.txn_base.specs.Disk.{Same, Since, CountsFaults};
+ghost use Rattle.txn_base.specs.Disk.{Same};
 ghost use Rattle.txn_base.specs.Frames.{IsDamagedAt};
+ghost use Rattle.txn_base.specs.Moves.{After, FaultsIn};
 ghost use Rattle.txn_ledger.specs.Found.{IsHead, FitsIn, IsPiece};
 ghost use Rattle.txn_ledger.specs.Ledger.{StandsIn};
 ghost use Rattle.txn_ledger.specs.Tied.{IsScanned};
@@ -31,8 +32,8 @@ fn read_head<D: Disk>(
     ensures piece { OnOk result (IsPiece D.tells (D.seen disk.old file) size window.new.at window.new.bytes.items) }
     ensures not_damaged { (entry : ℕ) → result ≡ Err (OpenError.Damaged entry) → ⊥ }
     ensures seen { D.seen disk.new ≡ D.seen disk.old }
-    ensures images { Since D.moment D.image D.left_since Same disk.old disk.new }
-    ensures cause { CountsFaults file.part (D.faults disk.old) (D.faults disk.new) (D.part_faults disk.old) (D.part_faults disk.new) (result ≡ Err OpenError.Fault) }
+    ensures images { After D.Disk Same disk.old disk.new }
+    ensures cause { FaultsIn D.Disk file.part disk.old disk.new (result ≡ Err OpenError.Fault) }
 {
     let left = size - end;
     let count = min(HEAD as u64, left);
@@ -55,8 +56,8 @@ pub fn scan<D: Disk>(
     ensures told { D.tells → IfOk result (λ found. StandsIn file (D.seen disk.old) found.carrier.content.batches) }
     ensures damaged { (entry : ℕ) → result ≡ Err (OpenError.Damaged entry) → D.tells → IsDamagedAt (D.seen disk.old file) entry }
     ensures seen { D.seen disk.new ≡ D.seen disk.old }
-    ensures images { Since D.moment D.image D.left_since Same disk.old disk.new }
-    ensures cause { CountsFaults file.part (D.faults disk.old) (D.faults disk.new) (D.part_faults disk.old) (D.part_faults disk.new) (result ≡ Err OpenError.Fault) }
+    ensures images { After D.Disk Same disk.old disk.new }
+    ensures cause { FaultsIn D.Disk file.part disk.old disk.new (result ≡ Err OpenError.Fault) }
 {
     let mut found = Found::new(alloc, file);
     let mut window = Window::new(alloc);

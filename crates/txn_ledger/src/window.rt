@@ -1,6 +1,7 @@
 //! A piece of a file that is read front to back.
 ghost use Rattle.std.specs.Prelude.{◌≡◌, ◌+◌, ◌^◌, ◌≤◌, ◌↔◌, ℕ, List, Err, length, take, drop, OnOk, IsTrue};
-ghost use Rattle.txn_base.specs.Disk.{Same, Since, CountsFaults};
+ghost use Rattle.txn_base.specs.Disk.{Same};
+ghost use Rattle.txn_base.specs.Moves.{After, FaultsIn};
 ghost use Rattle.txn_ledger.specs.Found.{IsPiece};
 
 use crate::OpenError;
@@ -56,8 +57,8 @@ impl Window {
         ensures back { OnOk result (from + count ≤ self.new.at + length self.new.bytes.items) }
         ensures not_damaged { (entry : ℕ) → result ≡ Err (OpenError.Damaged entry) → ⊥ }
         ensures seen { D.seen disk.new ≡ D.seen disk.old }
-        ensures images { Since D.moment D.image D.left_since Same disk.old disk.new }
-        ensures cause { CountsFaults file.part (D.faults disk.old) (D.faults disk.new) (D.part_faults disk.old) (D.part_faults disk.new) (result ≡ Err OpenError.Fault) }
+        ensures images { After D.Disk Same disk.old disk.new }
+        ensures cause { FaultsIn D.Disk file.part disk.old disk.new (result ≡ Err OpenError.Fault) }
     {
         if self.holds(from, count) {
             return Ok(());

@@ -2,9 +2,10 @@
 ghost use Rattle.std.specs.Prelude.{◌≡◌, ◌+◌, ◌^◌, ◌<◌, ◌≤◌, ◌∷◌, length, drop, OnOk, OnErr};
 ghost use Rattle.txn_base.specs.Bytes.{contents_of};
 ghost use Rattle.txn_base.specs.Content.{settled, landed, begun, Backed, Appends};
-ghost use Rattle.txn_base.specs.Disk.{Files, Elsewhere, Changes, Since, HasPartCause};
+ghost use Rattle.txn_base.specs.Disk.{Files, Elsewhere, Changes};
 ghost use Rattle.txn_base.specs.Outside.{counted};
 ghost use Rattle.txn_base.specs.Frames.{IsBatch, behind_gate, frame, frames};
+ghost use Rattle.txn_base.specs.Moves.{After, FailsIn};
 ghost use Rattle.txn_ledger.specs.Gate.{IsClosedAt, MayOpen};
 ghost use Rattle.txn_ledger.specs.Ledger.{ExactlyIn, IsFile, StandsIn};
 
@@ -17,12 +18,13 @@ fn write_frame<D: Disk>(disk: &mut D, file: FileId, end: u64, tail: &[u8]) -> Re
     requires some { 1 ≤ length tail.now }
     requires room { end + 1 + length tail.now < 2 ^ 64 }
     requires closed { (c : Files) → D.image disk.old c → IsClosedAt end (c file) }
-    ensures images { Since D.moment D.image D.left_since (Changes file (MayOpen end tail.now)) disk.old disk.new }
+    ensures images { After D.Disk (Changes file (MayOpen end tail.now)) disk.old disk.new }
     ensures opened { OnOk result ((c : Files) → D.image disk.new c → drop end (c file) ≡ 1 ∷ tail.now) }
     ensures others { Elsewhere file (D.seen disk.old) (D.seen disk.new) }
     ensures bound { OnOk result (end + 1 + length tail.now ≤ 2 ^ 50) }
-    ensures cause { HasPartCause file.part (D.faults disk.old) (D.faults disk.new) (D.part_faults disk.old) (D.part_faults disk.new) result }
+    ensures cause { FailsIn D.Disk file.part disk.old disk.new result }
     ensures calls { OnOk result (D.calls disk.new ≡ counted 5 (D.calls disk.old)) }
+    ensures few { D.calls disk.new ≤ counted 5 (D.calls disk.old) }
 {
     stage(disk, file, end, tail)?;
     open_gate(disk, file, end)?;
@@ -48,11 +50,12 @@ pub fn write_batch<D: Disk>(
     ensures ok { OnOk result (Backed StandsIn (D.image disk.new) (landed carrier.now.content (contents_of batch.now))) }
     ensures exact { D.tells → OnOk result (ExactlyIn carrier.now.content.key (D.seen disk.new) (landed carrier.now.content (contents_of batch.now)).batches) }
     ensures err { OnErr result (Backed StandsIn (D.image disk.new) (begun carrier.now.content (contents_of batch.now))) }
-    ensures images { Since D.moment D.image D.left_since (Appends IsFile StandsIn carrier.now.content (contents_of batch.now)) disk.old disk.new }
+    ensures images { After D.Disk (Appends IsFile StandsIn carrier.now.content (contents_of batch.now)) disk.old disk.new }
     ensures bound { OnOk result (end + length (frame (contents_of batch.now)) ≤ 2 ^ 50) }
     ensures others { Elsewhere carrier.now.content.key (D.seen disk.old) (D.seen disk.new) }
-    ensures cause { HasPartCause carrier.now.content.key.part (D.faults disk.old) (D.faults disk.new) (D.part_faults disk.old) (D.part_faults disk.new) result }
+    ensures cause { FailsIn D.Disk carrier.now.content.key.part disk.old disk.new result }
     ensures calls { OnOk result (D.calls disk.new ≡ counted 5 (D.calls disk.old)) }
+    ensures few { D.calls disk.new ≤ counted 5 (D.calls disk.old) }
 {
     write_frame(disk, file, end, tail)?;
     Ok(())

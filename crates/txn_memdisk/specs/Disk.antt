@@ -5,7 +5,8 @@ use Rattle.txn_base.specs.Disk.{Files}
 use Rattle.txn_memdisk.specs.declared.disk.MemDisk.{MemDisk}
 use Rattle.txn_memdisk.specs.declared.fault.FaultAt.{FaultAt}
 use Rattle.txn_memdisk.specs.declared.fault.Op.{Op}
-use Rattle.txn_memdisk.specs.Counts.{raised, part_count}
+use Rattle.txn_base.specs.FaultCounts.{part_count}
+use Rattle.txn_base.specs.Outside.{counted}
 use Rattle.txn_memdisk.specs.Faults.{is_listed_at, counted_at}
 use Rattle.txn_memdisk.specs.Files.{Entry, entry_in, updated, seen_in, IsImage}
 use Rattle.txn_memdisk.specs.Past.{LeftSince}
@@ -50,10 +51,10 @@ SameEntries old new = (id : FileId) → entries_of new id ≡ entries_of old id
 abbrev pub HasEntry : FileId → Entry → MemDisk → MemDisk → Type 0
 HasEntry file entry old new = (id : FileId) → entries_of new id ≡ updated file entry (entries_of old) id
 
--- A call of this kind on this file was counted, succeeded only where it isn't one of those that fail, and raised the
+-- A call of this kind on this file was counted, succeeded only where it isn't one of those that fail, and counted 1 the
 -- count and that of the part by one where it failed, and none where it succeeded.
 pub record IsCounted {T E : Type 0} (op : Op) (file : FileId) (result : Result T E) (old new : MemDisk) : Type 0 where
   pub waits : waits_of new ≡ counted_at file op (waits_of old)
   pub unlisted : OnOk result (is_listed_at file op (waits_of old) ≡ false)
   pub none_failed : OnOk result (new.counts ≡ old.counts)
-  pub one_failed : OnErr result ((faults_of new ≡ raised (faults_of old)) × (part_faults_of new file.part ≡ raised (part_faults_of old file.part)))
+  pub one_failed : OnErr result ((faults_of new ≡ counted 1 (faults_of old)) × (part_faults_of new file.part ≡ counted 1 (part_faults_of old file.part)))

@@ -1,6 +1,5 @@
 pub mod Change
 pub mod Countdown
-pub mod Counts
 pub mod Crash
 pub mod Disk
 pub mod Faults

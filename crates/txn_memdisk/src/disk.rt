@@ -4,7 +4,6 @@ ghost use Rattle.std.proofs.Common.{inl};
 ghost use Rattle.txn_base.specs.declared.file_id.FileId.{FileId};
 ghost use Rattle.txn_base.specs.Disk.{Files, Same, Elsewhere, Changes, Torn, OldOrResized, overwritten, resized, Since, Only, HasPartCause};
 ghost use Rattle.txn_base.specs.Outside.{counted};
-ghost use Rattle.txn_memdisk.specs.Counts.{raised};
 ghost use Rattle.txn_memdisk.specs.Crash.{chosen};
 ghost use Rattle.txn_memdisk.specs.Faults.{is_listed_at};
 ghost use Rattle.txn_memdisk.specs.Files.{Becomes, nothing, written_entry, lost_entry, sized_entry, sure_entry};
@@ -14,15 +13,13 @@ ghost use Rattle.txn_memdisk.specs.Disk.{seen_of, image_of, moment_of, left_of, 
 
 mod told;
 
-use crate::calls::Calls;
-use crate::counts::Counts;
 use crate::crash::{Choice, all_left};
 use crate::fault::{FaultAt, Op, fires_at};
 use crate::file::MemFile;
 use crate::files::{bytes_in, lose, make_sure, put, resize, write};
 use std::alloc::{AllocError, Global};
 use std::snapshot::Snapshot;
-use txn_base::{Disk, Failed, FileId};
+use txn_base::{Calls, Disk, Failed, FaultCounts, FileId};
 
 /// The greatest size of a file, in bytes.
 const MAX_SIZE: u64 = 1 << 50;
@@ -37,7 +34,7 @@ pub struct MemDisk {
     past: Vec<Snapshot<Vec<MemFile>>>,
     /// The calls that are to fail, each with the number of calls that it takes to come to it.
     waits: Vec<FaultAt>,
-    counts: Counts,
+    counts: FaultCounts,
     calls: Calls,
 }
 
@@ -210,7 +207,7 @@ impl MemDisk {
             files: Vec::new(alloc),
             past: Vec::new(alloc),
             waits,
-            counts: Counts::new(),
+            counts: FaultCounts::new(),
             calls: Calls { all: 0, writes: 0 },
         })
     }
@@ -255,7 +252,7 @@ impl MemDisk {
             files,
             past: Vec::new(self.alloc),
             waits: Vec::new(self.alloc),
-            counts: Counts::new(),
+            counts: FaultCounts::new(),
             calls: Calls { all: 0, writes: 0 },
         })
     }
@@ -265,7 +262,7 @@ impl MemDisk {
         ensures error { IsErr result }
         ensures images { Since moment_of image_of left_of (Changes file (Torn offset count)) self.old self.new }
         ensures cause { HasPartCause file.part (faults_of self.old) (faults_of self.new) (part_faults_of self.old) (part_faults_of self.new) result }
-        ensures one_failed { (faults_of self.new ≡ raised (faults_of self.old)) × (part_faults_of self.new file.part ≡ raised (part_faults_of self.old file.part)) }
+        ensures one_failed { (faults_of self.new ≡ counted 1 (faults_of self.old)) × (part_faults_of self.new file.part ≡ counted 1 (part_faults_of self.old file.part)) }
         ensures waits { waits_of self.new ≡ waits_of self.old }
         ensures calls { self.new.calls ≡ self.old.calls }
         ensures entries { SameEntries self.old self.new ⊎ (HasEntry file (lost_entry offset count (entries_of self.old file)) self.old self.new) }

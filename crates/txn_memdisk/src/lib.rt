@@ -1,11 +1,9 @@
 //! The outside in memory, for tests: a disk that fails where it is told to and can crash, a source, a sink and a clock.
 #![tactic(auto)]
 
-mod calls;
 mod change;
 mod clock;
 mod countdown;
-mod counts;
 mod crash;
 mod disk;
 mod fault;

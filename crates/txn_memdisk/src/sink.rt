@@ -2,7 +2,7 @@
 ghost use Rattle.std.specs.Prelude.{◌≡◌, ◌==◌, ◌&&◌, ◌≤◌, ◌<◌, nat_lt, if◌then◌else◌, MatchResult, [], Some, None, length, min, true, false, IfOk, OnOk};
 ghost use Rattle.std.specs.Io.KnownBytes.{WriteAppends};
 ghost use Rattle.txn_base.specs.Outside.{HasCause, Rose};
-ghost use Rattle.txn_memdisk.specs.Counts.{raised};
+ghost use Rattle.txn_base.specs.Outside.{counted};
 ghost use Rattle.txn_memdisk.specs.Countdown.{is_listed, counted_down};
 
 use crate::countdown::fires;
@@ -63,7 +63,7 @@ impl Sink for MemSink {
         ensures none { IfOk result (λ n. n ≡ 0 → 0 < length bytes.now → Rose self.old.faults self.new.faults) }
         ensures cause { HasCause self.old.faults self.new.faults result }
         ensures count { IfOk result (λ n. n ≡ min (length bytes.now) self.old.most) }
-        ensures faults { MatchResult result (λ n. self.new.faults ≡ (if n == 0 && nat_lt 0 (length bytes.now) then raised self.old.faults else self.old.faults)) (λ e. self.new.faults ≡ raised self.old.faults) }
+        ensures faults { MatchResult result (λ n. self.new.faults ≡ (if n == 0 && nat_lt 0 (length bytes.now) then counted 1 self.old.faults else self.old.faults)) (λ e. self.new.faults ≡ counted 1 self.old.faults) }
         ensures listed { OnOk result (is_listed self.old.waits ≡ false) }
         ensures counted { self.new.waits ≡ counted_down self.old.waits }
         ensures most { self.new.most ≡ self.old.most }

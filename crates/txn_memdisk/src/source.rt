@@ -2,7 +2,7 @@
 ghost use Rattle.std.specs.Prelude.{◌≡◌, ◌≤◌, Some, None, ◌<◌, length, min, true, false, IfOk, MatchResult};
 ghost use Rattle.std.specs.Io.KnownBytes.{ReadConsumes};
 ghost use Rattle.txn_base.specs.Outside.{HasCause};
-ghost use Rattle.txn_memdisk.specs.Counts.{raised};
+ghost use Rattle.txn_base.specs.Outside.{counted};
 ghost use Rattle.txn_memdisk.specs.Countdown.{is_listed, counted_down};
 
 use crate::countdown::fires;
@@ -66,7 +66,7 @@ impl Source for MemSource {
         ensures bytes { ReadConsumes (Some self.old.left) (Some self.new.left) result into.new }
         ensures cause { HasCause self.old.faults self.new.faults result }
         ensures count { IfOk result (λ n. n ≡ min (min (length into.new) self.old.most) (length self.old.left)) }
-        ensures faults { MatchResult result (λ n. self.new.faults ≡ self.old.faults) (λ e. self.new.faults ≡ raised self.old.faults) }
+        ensures faults { MatchResult result (λ n. self.new.faults ≡ self.old.faults) (λ e. self.new.faults ≡ counted 1 self.old.faults) }
         ensures listed { MatchResult result (λ n. is_listed self.old.waits ≡ false) (λ e. is_listed self.old.waits ≡ true) }
         ensures counted { self.new.waits ≡ counted_down self.old.waits }
         ensures most { self.new.most ≡ self.old.most }

@@ -1,6 +1,7 @@
 -- How calls on the disk follow each other: what every image keeps, and the counts of faults.
 use Rattle.std.proofs.Common.{◌≡◌, ◌≤◌, ℕ, List, length, subst, refl, arith, ◌∙◌}
-use Rattle.txn_base.specs.Disk.{Files, Since}
+use Rattle.txn_base.specs.declared.disk.Disk.{Ghosts}
+use Rattle.txn_base.specs.Moves.{After}
 use Rattle.txn_base.specs.Outside.{Rose}
 use Rattle.txn_base.proofs.Laws.{started, goes_on}
 use Rattle.txn_engine.specs.Above.{KeepsAboveIf}
@@ -9,33 +10,33 @@ use Rattle.txn_engine.specs.Opening.{KeepsLists}
 use Rattle.txn_engine.specs.Told.{CountsWithin}
 use Rattle.txn_run.specs.Files.{LeavesOthers}
 
-module _ {D : Type 0} (moment : D → ℕ) (image : D → Files → Type 0) (left_since : D → ℕ → Files → Type 0) where
-  pub keeps_first : (X : Type 0) (names : List (List ℕ)) (disk : D) → Since moment image left_since (KeepsAboveIf X names) disk disk
-  keeps_first X names disk = started moment image left_since disk (KeepsAboveIf X names) (λ c at holds floor above. above)
+module _ {D : Type 0} (on : Ghosts D) where
+  pub keeps_first : (X : Type 0) (names : List (List ℕ)) (disk : D) → After on (KeepsAboveIf X names) disk disk
+  keeps_first X names disk = started on disk (KeepsAboveIf X names) (λ c at holds floor above. above)
 
-  pub keeps_then : (X Y : Type 0) (names other : List (List ℕ)) (old mid new : D) → other ≡ names → (X → Y) → Since moment image left_since (KeepsAboveIf X names) old mid → Since moment image left_since (KeepsAboveIf Y other) mid new
-      → Since moment image left_since (KeepsAboveIf X names) old new
+  pub keeps_then : (X Y : Type 0) (names other : List (List ℕ)) (old mid new : D) → other ≡ names → (X → Y) → After on (KeepsAboveIf X names) old mid → After on (KeepsAboveIf Y other) mid new
+      → After on (KeepsAboveIf X names) old new
   keeps_then X Y names other old mid new same still so_far call =
-      goes_on moment image left_since (KeepsAboveIf X names) (KeepsAboveIf Y names) (KeepsAboveIf X names) old mid new so_far (subst (λ (ns : List (List ℕ)). Since moment image left_since (KeepsAboveIf Y ns) mid new) same call)
+      goes_on on (KeepsAboveIf X names) (KeepsAboveIf Y names) (KeepsAboveIf X names) old mid new so_far (subst (λ (ns : List (List ℕ)). After on (KeepsAboveIf Y ns) mid new) same call)
       (λ d c at is. is) (λ d e c at one mid_at two holds floor above. two (still holds) floor (one holds floor above))
 
 -- ---- other files
 
-module _ {D : Type 0} (moment : D → ℕ) (image : D → Files → Type 0) (left_since : D → ℕ → Files → Type 0) (seen : D → Files) where
-  pub leaves_none : (n : ℕ) (disk : D) → LeavesOthers moment image left_since seen n disk disk
-  leaves_none n disk = record { now = λ file other. refl; since = started moment image left_since disk (OnlyLedgers n) (λ c at file other. refl) }
+module _ {D : Type 0} (on : Ghosts D) where
+  pub leaves_none : (n : ℕ) (disk : D) → LeavesOthers on n disk disk
+  leaves_none n disk = record { now = λ file other. refl; since = started on disk (OnlyLedgers n) (λ c at file other. refl) }
 
   -- over parts of the same names
-  pub leaves_then : (names other : List (List ℕ)) (old mid new : D) → other ≡ names → LeavesOthers moment image left_since seen (length names) old mid → LeavesOthers moment image left_since seen (length other) mid new → LeavesOthers moment image left_since seen (length names) old new
+  pub leaves_then : (names other : List (List ℕ)) (old mid new : D) → other ≡ names → LeavesOthers on (length names) old mid → LeavesOthers on (length other) mid new → LeavesOthers on (length names) old new
   leaves_then names other old mid new same one call =
-      let two : LeavesOthers moment image left_since seen (length names) mid new = subst (λ (ns : List (List ℕ)). LeavesOthers moment image left_since seen (length ns) mid new) same call in
+      let two : LeavesOthers on (length names) mid new = subst (λ (ns : List (List ℕ)). LeavesOthers on (length ns) mid new) same call in
       record {
         now = λ file apart. two.now file apart ∙ one.now file apart;
-        since = goes_on moment image left_since (OnlyLedgers (length names)) (OnlyLedgers (length names)) (OnlyLedgers (length names)) old mid new one.since two.since (λ d c at is. is) (λ d e c at first mid_at then file apart. then file apart ∙ first file apart);
+        since = goes_on on (OnlyLedgers (length names)) (OnlyLedgers (length names)) (OnlyLedgers (length names)) old mid new one.since two.since (λ d c at is. is) (λ d e c at first mid_at then file apart. then file apart ∙ first file apart);
       }
 
-  pub lists_kept : (disk : D) → Since moment image left_since KeepsLists disk disk
-  lists_kept disk = started moment image left_since disk KeepsLists (λ c at file batches stands. stands)
+  pub lists_kept : (disk : D) → After on KeepsLists disk disk
+  lists_kept disk = started on disk KeepsLists (λ c at file batches stands. stands)
 
 rose_then : (a b c : ℕ) → a ≤ b → Rose b c → Rose a c
 rose_then a b c le rose = grind (arith, le, rose)

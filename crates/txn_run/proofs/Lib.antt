@@ -5,6 +5,7 @@ pub mod Telling
 pub mod Fenced
 pub mod Feeding
 pub mod Reading
+pub mod Serving
 pub mod Counted
 pub mod FirstState
 pub mod Undamaged

@@ -1,6 +1,8 @@
 -- From the opening to the last table.
 use Rattle.std.proofs.Common.{◌≡◌, ℕ, List, [], ◌∷◌, Option, Result, Ok, refl, sym, ap, ◌∙◌, subst}
-use Rattle.txn_base.specs.Disk.{Files, Since}
+use Rattle.txn_base.specs.declared.disk.Disk.{Ghosts}
+use Rattle.txn_base.specs.Moves.{After}
+use Rattle.txn_base.specs.Disk.{Files}
 use Rattle.txn_base.specs.declared.file_id.FileId.{FileId}
 use Rattle.txn_base.proofs.Laws.{weaker, goes_on}
 use Rattle.txn_model.specs.declared.world.World.{World}
@@ -23,23 +25,23 @@ use Rattle.txn_run.specs.Status.{unopened}
 use Rattle.txn_run.specs.declared.status.RunStatus.TheVariants as status
 use Rattle.txn_run.proofs.FirstState.{first_table}
 
-module _ {D : Type 0} (moment : D → ℕ) (image : D → Files → Type 0) (left_since : D → ℕ → Files → Type 0) (names : List (List ℕ)) where
+module _ {D : Type 0} (on : Ghosts D) (names : List (List ℕ)) where
   world_above : (d c : Files) → KeepsWorld names d c → KeepsAbove names d c
   world_above d c keeps floor above = record { world = above.world; stands = keeps above.world above.stands; lawful = above.lawful; extends = above.extends }
 
-  pub opening_above : (old mid : D) → Since moment image left_since (KeepsWorld names) old mid → Since moment image left_since (KeepsAbove names) old mid
-  opening_above old mid opened = weaker moment image left_since (KeepsWorld names) (KeepsAbove names) old mid (λ d c at keeps. world_above d c keeps) opened
+  pub opening_above : (old mid : D) → After on (KeepsWorld names) old mid → After on (KeepsAbove names) old mid
+  opening_above old mid opened = weaker on (KeepsWorld names) (KeepsAbove names) old mid (λ d c at keeps. world_above d c keeps) opened
 
   -- only a disk that tells has images
-  pub running_above : (X tells : Type 0) → ((disk : D) (c : Files) → image disk c → tells) → (tells → X) → (old mid new : D) (other : List (List ℕ)) → other ≡ names
-      → Since moment image left_since (KeepsWorld names) old mid → Since moment image left_since (KeepsAboveIf X other) mid new → Since moment image left_since (KeepsAbove names) old new
+  pub running_above : (X tells : Type 0) → ((disk : D) (c : Files) → on.image disk c → tells) → (tells → X) → (old mid new : D) (other : List (List ℕ)) → other ≡ names
+      → After on (KeepsWorld names) old mid → After on (KeepsAboveIf X other) mid new → After on (KeepsAbove names) old new
   running_above X tells told tied old mid new other same opened ran =
-      goes_on moment image left_since (KeepsAbove names) (KeepsAboveIf X names) (KeepsAbove names) old mid new (opening_above old mid opened)
-      (subst (λ (ns : List (List ℕ)). Since moment image left_since (KeepsAboveIf X ns) mid new) same ran)
+      goes_on on (KeepsAbove names) (KeepsAboveIf X names) (KeepsAbove names) old mid new (opening_above old mid opened)
+      (subst (λ (ns : List (List ℕ)). After on (KeepsAboveIf X ns) mid new) same ran)
       (λ d c at is. is) (λ d e c at one mid_at two floor above. two (tied (told mid e mid_at)) floor (one floor above))
 
   -- an image that is left, where each at the call was sound
-  pub image_above : (old new : D) → Since moment image left_since (KeepsAbove names) old new → ((c : Files) → image old c → IsSoundBefore names c) → (c : Files) → image new c → (w : World) × StandsAbove names w c
+  pub image_above : (old new : D) → After on (KeepsAbove names) old new → ((c : Files) → on.image old c → IsSoundBefore names c) → (c : Files) → on.image new c → (w : World) × StandsAbove names w c
   image_above old new since sound c at =
       let from = since.at_end c at in
       let was = sound from.0 from.1 in

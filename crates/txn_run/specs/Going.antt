@@ -2,6 +2,8 @@
 use Rattle.std.specs.Prelude.{◌≡◌, ℕ, ◌<◌, ◌≤◌, List, ◌++◌, length, true, false, Option}
 use Rattle.std.specs.Io.KnownBytes.{Consumes}
 use Rattle.txn_base.specs.declared.limits.Limits.{Limits}
+use Rattle.txn_base.specs.declared.clock.Clock as clock
+use Rattle.txn_base.specs.declared.disk.Disk as disk
 use Rattle.txn_model.specs.Cut.{whole_lines, last_piece}
 use Rattle.txn_model.specs.Replies.{Standing}
 use Rattle.txn_engine.specs.Table.{table_of}
@@ -12,6 +14,10 @@ use Rattle.txn_run.specs.declared.pending.Pending.{Pending}
 -- The table over an engine, with what the clock has to tell and the counts of the disk.
 abbrev pub standing : EngineView → Option (List ℕ) → ℕ → (ℕ → ℕ) → Standing
 standing v moments faults faults_of = record { table = table_of v; moments = moments; faults = faults; faults_of = faults_of }
+
+-- The same at a moment of a clock and of a disk.
+abbrev pub standing_at : {D K : Type 0} → disk.Ghosts D → clock.Ghosts K → EngineView → K → D → Standing
+standing_at d k v clock disk = standing v (k.moments clock) (d.faults disk) (d.part_faults disk)
 
 -- The piece of a line that has come: what is kept of it is all of it, unless it is too long.
 pub record Stands (limit : ℕ) (p : Pending) (piece : List ℕ) : Type 0 where

@@ -5,6 +5,7 @@ pub mod Going
 pub mod Kinds
 pub mod Promises
 pub mod Run
+pub mod Serving
 pub mod Status
 pub mod Told
 pub mod Words

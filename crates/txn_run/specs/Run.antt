@@ -1,9 +1,15 @@
 -- How a run ends.
-use Rattle.std.specs.Prelude.{◌≡◌, ◌⊎◌, ℕ, ◌+◌, ◌-◌, ◌^◌, ◌<◌, ◌≤◌, min, List, [], ◌∷◌, ◌++◌, length, Option}
+use Rattle.std.specs.Prelude.{◌≡◌, ◌⊎◌, ℕ, ◌+◌, ◌-◌, ◌^◌, ◌<◌, ◌≤◌, min, List, [], ◌∷◌, ◌++◌, length, Option, Ok}
 use Rattle.std.specs.Io.KnownBytes.{Consumes, Keeps, IsAtEnd}
+use Rattle.txn_base.specs.declared.clock.Clock as clock
+use Rattle.txn_base.specs.declared.disk.Disk as disk
+use Rattle.txn_base.specs.declared.sink.Sink as sink
+use Rattle.txn_base.specs.declared.source.Source as source
 use Rattle.txn_base.specs.Disk.{Files}
+use Rattle.txn_base.specs.Moves.{After}
 use Rattle.txn_base.specs.declared.limits.Limits.{Limits}
 use Rattle.txn_base.specs.declared.reply.Reply.{Reply}
+use Rattle.txn_engine.specs.Opening.{AreParts, KeepsLists}
 use Rattle.txn_model.specs.declared.world.World.{World}
 use Rattle.txn_model.specs.Cut.{whole_lines, lines_of}
 use Rattle.txn_model.specs.Opening.{first_state}
@@ -11,6 +17,7 @@ use Rattle.txn_model.specs.Replies.{Standing, count_faults}
 use Rattle.txn_model.specs.Sound.{StandsForKept}
 use Rattle.txn_model.specs.Table.{TableState}
 use Rattle.txn_run.specs.Before.{IsSoundBefore}
+use Rattle.txn_run.specs.Words.{command_of}
 use Rattle.txn_run.specs.Told.{AllRebuilt, Told, Broken, Stopped, EndsWithFault}
 use Rattle.txn_run.specs.declared.status.RunStatus.{RunStatus}
 use Rattle.txn_run.specs.declared.status.RunStatus.TheVariants as status
@@ -129,9 +136,29 @@ pub record Ran (ended : RunStatus) (limits : Limits) (names : List (List ℕ)) (
   pub leaves : ((c : Files) → image_before c → IsSoundBefore names c) → (c : Files) → image c → Leaves names last.table c
 
 -- Ended before its first line, or ran. Damage is no end of a run over sound files.
-abbrev pub RunOf : RunStatus → Limits → List (List ℕ) → World → (moments moments' : Option (List ℕ)) → (image_before image : Files → Type 0) → (before after : ℕ) → (parts_before parts_after : ℕ → ℕ) → (left left' held held' : Option (List ℕ)) → Type 0
-RunOf ended limits names w moments moments' image_before image before after parts_before parts_after left left' held held' =
-    Early ended moments moments' left left' held held' ⊎ Ran ended limits names w moments moments' image_before image before after parts_before parts_after left left' held held'
+abbrev pub RunOn : {D I O K : Type 0} → disk.Ghosts D → source.Ghosts I → sink.Ghosts O → clock.Ghosts K
+    → RunStatus → Limits → List (List ℕ) → World → (d d' : D) → (i i' : I) → (o o' : O) → (k k' : K) → Type 0
+RunOn D I O K ended limits names w d d' i i' o o' k k' =
+    Early ended (K.moments k) (K.moments k') (I.left i) (I.left i') (O.held o) (O.held o')
+    ⊎ Ran ended limits names w (K.moments k) (K.moments k') (D.image d) (D.image d') (D.faults d) (D.faults d') (D.part_faults d) (D.part_faults d')
+        (I.left i) (I.left i') (O.held o) (O.held o')
+
+-- The same of a disk that tells, over files that are sound together with these names.
+abbrev pub RunsOn : {D I O K : Type 0} → disk.Ghosts D → source.Ghosts I → sink.Ghosts O → clock.Ghosts K
+    → RunStatus → Limits → List (List ℕ) → (d d' : D) → (i i' : I) → (o o' : O) → (k k' : K) → Type 0
+RunsOn D I O K ended limits names d d' i i' o o' k k' =
+    D.tells → (sound : IsSoundBefore names (D.seen d)) → RunOn D I O K ended limits names sound.world d d' i i' o o' k k'
+
+-- Where the words are a command line, this holds of the names of its topics.
+abbrev pub Asks : List (List ℕ) → (List (List ℕ) → Type 0) → Type 0
+Asks words holds = (name : List ℕ) → command_of words ≡ Ok name → holds (name ∷ [])
+
+-- With 5, the outside is as it was but for the lists of the files; or the reply to the last line told of a fault, and the
+-- files of n parts had been read.
+abbrev pub DiskStopped : {D I O K : Type 0} → disk.Ghosts D → source.Ghosts I → sink.Ghosts O → ℕ → (d d' : D) → (i i' : I) → (o o' : O) → (k k' : K) → Type 0
+DiskStopped D I O n d d' i i' o o' k k' =
+    ((i' ≡ i) × (o' ≡ o) × (k' ≡ k) × After D KeepsLists d d')
+    ⊎ (FaultIsLast (I.left i) (I.left i') (O.held o) (O.held o') × (D.tells → AreParts n (D.seen d)))
 
 -- The statuses of a run that took all its input, or whose source or sink failed, or that took too much.
 abbrev pub IsAnswered : RunStatus → Type 0

@@ -1,20 +1,17 @@
 //! The lines of the source, and what is told to each.
 ghost use Rattle.std.specs.Prelude.{◌≡◌, ◌≤◌, ◌<◌, ◌∷◌, [], ◌⊎◌, ℕ, List, Option, None, length, take, IfOk, IfSome, OnOk, Ok, Err, MatchResult, true};
 ghost use Rattle.std.specs.Io.KnownBytes.{Consumes, Keeps, IsAtEnd};
-ghost use Rattle.txn_base.specs.Disk.{Since};
-ghost use Rattle.txn_base.specs.Outside.{HasCause, Rose};
+ghost use Rattle.txn_base.specs.Outside.{HasCause};
 ghost use Rattle.txn_base.specs.Room.{capacity};
-ghost use Rattle.txn_engine.specs.Above.{KeepsAboveIf};
-ghost use Rattle.txn_engine.specs.Kept.{IsEngine};
-ghost use Rattle.txn_engine.specs.Told.{CountsWithin, IsTellable};
-ghost use Rattle.txn_engine.specs.View.{IsWhole, IsTied, IsBacked};
+ghost use Rattle.txn_engine.specs.Told.{IsTellable};
+ghost use Rattle.txn_engine.specs.View.{IsWhole, IsTied};
 ghost use Rattle.txn_model.specs.Answers.{reads_clock};
 ghost use Rattle.txn_model.specs.Cut.{is_blank, lines_of};
 ghost use Rattle.txn_model.specs.Replies.{Standing, Replied, TellsFor};
-ghost use Rattle.txn_run.specs.Files.{LeavesOthers};
-ghost use Rattle.txn_run.specs.Going.{standing, Stands, Going, GoesOn, BreaksOff, StopsIn};
+ghost use Rattle.txn_run.specs.Going.{standing_at, Stands, Going, GoesOn, BreaksOff, StopsIn};
 ghost use Rattle.txn_run.specs.Kinds.{is_answered, line_kind};
-ghost use Rattle.txn_run.specs.Told.{tells_fault, Grows, EndsWithFault, ToldLine, ToldFront, ToldFault, Told, Broken, Stopped, MayTell};
+ghost use Rattle.txn_run.specs.Serving.{CanServe, Serves, TellsTo};
+ghost use Rattle.txn_run.specs.Told.{tells_fault, ToldLine, ToldFront, ToldFault, Told, Broken, Stopped, MayTell};
 ghost use Rattle.txn_run.specs.declared.lines.Stop.TheVariants as stop;
 
 use crate::pending::Pending;
@@ -88,22 +85,12 @@ fn reply<D: Disk, K: Clock, L: ledger::Ledger>(
     steps: &mut Steps<L>,
     clock: &mut K,
 ) -> Option<Reply>
-    requires whole { IsWhole engine.old }
-    requires limits { engine.old.limits ≡ limits.now }
-    requires engine { IsEngine engine.old }
-    requires backed { IsBacked (D.image disk.old) engine.old }
-    ensures some { IfSome result (λ told. D.tells → IsTied engine.old → (piece : List ℕ) → Stands limits.now.line pending.now piece → MayTell limits.now (standing engine.old (K.moments clock.old) (D.faults disk.old) (D.part_faults disk.old)) (line_kind limits.now piece) told (standing engine.new (K.moments clock.new) (D.faults disk.new) (D.part_faults disk.new))) }
-    ensures none { result ≡ None → (piece : List ℕ) → Stands limits.now.line pending.now piece → Replied limits.now (standing engine.old (K.moments clock.old) (D.faults disk.old) (D.part_faults disk.old)) (line_kind limits.now piece) [] (standing engine.new (K.moments clock.new) (D.faults disk.new) (D.part_faults disk.new)) }
+    requires ready { CanServe D.Disk limits.now engine.old disk.old }
+    ensures some { IfSome result (λ told. D.tells → IsTied engine.old → (piece : List ℕ) → Stands limits.now.line pending.now piece → MayTell limits.now (standing_at D.Disk K.Clock engine.old clock.old disk.old) (line_kind limits.now piece) told (standing_at D.Disk K.Clock engine.new clock.new disk.new)) }
+    ensures none { result ≡ None → (piece : List ℕ) → Stands limits.now.line pending.now piece → Replied limits.now (standing_at D.Disk K.Clock engine.old clock.old disk.old) (line_kind limits.now piece) [] (standing_at D.Disk K.Clock engine.new clock.new disk.new) }
     ensures whole { IsWhole engine.new ⊎ (tells_fault result ≡ true) }
     ensures tellable { IfSome result IsTellable }
-    ensures names { engine.new.names ≡ engine.old.names }
-    ensures limits { engine.new.limits ≡ engine.old.limits }
-    ensures engine { IsEngine engine.new }
-    ensures tied { IsTied engine.old → IsTied engine.new }
-    ensures backed { IsBacked (D.image disk.new) engine.new }
-    ensures images { Since D.moment D.image D.left_since (KeepsAboveIf (IsTied engine.old) engine.old.names) disk.old disk.new }
-    ensures elsewhere { LeavesOthers D.moment D.image D.left_since D.seen (length engine.old.names) disk.old disk.new }
-    ensures cause { CountsWithin (length engine.old.names) (D.faults disk.old) (D.faults disk.new) (D.part_faults disk.old) (D.part_faults disk.new) (tells_fault result ≡ true) }
+    ensures serves { Serves D.Disk (tells_fault result ≡ true) engine.old engine.new disk.old disk.new }
 {
     if pending.long {
         return Some(Reply::No(Refusal::TooLong));
@@ -138,29 +125,15 @@ fn answer_line<D: Disk, O: Sink, K: Clock, L: ledger::Ledger>(
     sink: &mut O,
     clock: &mut K,
 ) -> Result<(), Stop>
-    requires whole { IsWhole engine.old }
-    requires limits { engine.old.limits ≡ limits.now }
-    requires engine { IsEngine engine.old }
-    requires backed { IsBacked (D.image disk.old) engine.old }
+    requires ready { CanServe D.Disk limits.now engine.old disk.old }
     requires room { 512 ≤ capacity out.old }
     ensures kept { capacity out.old ≤ capacity out.new }
-    ensures ok { result ≡ Ok tt → D.tells → IsTied engine.old → (piece : List ℕ) → Stands limits.now.line pending.now piece → ToldLine limits.now (standing engine.old (K.moments clock.old) (D.faults disk.old) (D.part_faults disk.old)) (line_kind limits.now piece) (standing engine.new (K.moments clock.new) (D.faults disk.new) (D.part_faults disk.new)) (O.held sink.old) (O.held sink.new) }
-    ensures sink { result ≡ Err stop.Sink → D.tells → IsTied engine.old → (piece : List ℕ) → Stands limits.now.line pending.now piece → ToldFront limits.now (standing engine.old (K.moments clock.old) (D.faults disk.old) (D.part_faults disk.old)) (line_kind limits.now piece) (standing engine.new (K.moments clock.new) (D.faults disk.new) (D.part_faults disk.new)) (O.held sink.old) (O.held sink.new) }
-    ensures disk { result ≡ Err stop.Disk → D.tells → IsTied engine.old → (piece : List ℕ) → Stands limits.now.line pending.now piece → ToldFault limits.now (standing engine.old (K.moments clock.old) (D.faults disk.old) (D.part_faults disk.old)) (line_kind limits.now piece) (standing engine.new (K.moments clock.new) (D.faults disk.new) (D.part_faults disk.new)) (O.held sink.old) (O.held sink.new) }
-    ensures grown { Grows (O.held sink.old) (O.held sink.new) }
-    ensures stopped { result ≡ Err stop.Disk → EndsWithFault (O.held sink.old) (O.held sink.new) }
+    ensures ok { result ≡ Ok tt → D.tells → IsTied engine.old → (piece : List ℕ) → Stands limits.now.line pending.now piece → ToldLine limits.now (standing_at D.Disk K.Clock engine.old clock.old disk.old) (line_kind limits.now piece) (standing_at D.Disk K.Clock engine.new clock.new disk.new) (O.held sink.old) (O.held sink.new) }
+    ensures sink { result ≡ Err stop.Sink → D.tells → IsTied engine.old → (piece : List ℕ) → Stands limits.now.line pending.now piece → ToldFront limits.now (standing_at D.Disk K.Clock engine.old clock.old disk.old) (line_kind limits.now piece) (standing_at D.Disk K.Clock engine.new clock.new disk.new) (O.held sink.old) (O.held sink.new) }
+    ensures disk { result ≡ Err stop.Disk → D.tells → IsTied engine.old → (piece : List ℕ) → Stands limits.now.line pending.now piece → ToldFault limits.now (standing_at D.Disk K.Clock engine.old clock.old disk.old) (line_kind limits.now piece) (standing_at D.Disk K.Clock engine.new clock.new disk.new) (O.held sink.old) (O.held sink.new) }
     ensures whole { OnOk result (IsWhole engine.new) }
-    ensures names { engine.new.names ≡ engine.old.names }
-    ensures limits { engine.new.limits ≡ engine.old.limits }
-    ensures engine { IsEngine engine.new }
-    ensures tied { IsTied engine.old → IsTied engine.new }
-    ensures backed { IsBacked (D.image disk.new) engine.new }
-    ensures images { Since D.moment D.image D.left_since (KeepsAboveIf (IsTied engine.old) engine.old.names) disk.old disk.new }
-    ensures elsewhere { LeavesOthers D.moment D.image D.left_since D.seen (length engine.old.names) disk.old disk.new }
-    ensures beside { O.rest sink.new ≡ O.rest sink.old }
-    ensures writes_later { O.faults sink.old ≤ O.faults sink.new }
-    ensures writes { result ≡ Err stop.Sink → Rose (O.faults sink.old) (O.faults sink.new) }
-    ensures cause { CountsWithin (length engine.old.names) (D.faults disk.old) (D.faults disk.new) (D.part_faults disk.old) (D.part_faults disk.new) (result ≡ Err stop.Disk) }
+    ensures serves { Serves D.Disk (result ≡ Err stop.Disk) engine.old engine.new disk.old disk.new }
+    ensures tells { TellsTo O.Sink result sink.old sink.new }
 {
     match reply(alloc, limits, pending, engine, disk, steps, clock) {
         Some(reply) => match put_reply(alloc, &reply, out, sink) {
@@ -189,31 +162,17 @@ fn take_byte<D: Disk, O: Sink, K: Clock, L: ledger::Ledger>(
     sink: &mut O,
     clock: &mut K,
 ) -> Result<(), Stop>
-    requires whole { IsWhole engine.old }
-    requires limits { engine.old.limits ≡ limits.now }
-    requires engine { IsEngine engine.old }
-    requires backed { IsBacked (D.image disk.old) engine.old }
+    requires ready { CanServe D.Disk limits.now engine.old disk.old }
     requires line { limits.now.line ≤ capacity pending.old.line }
     requires room { 512 ≤ capacity out.old }
     ensures line { limits.now.line ≤ capacity pending.new.line }
     ensures kept { capacity out.old ≤ capacity out.new }
-    ensures ok { result ≡ Ok tt → D.tells → IsTied engine.old → GoesOn limits.now (byte ∷ []) pending.old (standing engine.old (K.moments clock.old) (D.faults disk.old) (D.part_faults disk.old)) (O.held sink.old) pending.new (standing engine.new (K.moments clock.new) (D.faults disk.new) (D.part_faults disk.new)) (O.held sink.new) }
-    ensures sink { result ≡ Err stop.Sink → D.tells → IsTied engine.old → BreaksOff limits.now (byte ∷ []) pending.old (standing engine.old (K.moments clock.old) (D.faults disk.old) (D.part_faults disk.old)) (O.held sink.old) (standing engine.new (K.moments clock.new) (D.faults disk.new) (D.part_faults disk.new)) (O.held sink.new) }
-    ensures disk { result ≡ Err stop.Disk → D.tells → IsTied engine.old → StopsIn limits.now (byte ∷ []) pending.old (standing engine.old (K.moments clock.old) (D.faults disk.old) (D.part_faults disk.old)) (O.held sink.old) (standing engine.new (K.moments clock.new) (D.faults disk.new) (D.part_faults disk.new)) (O.held sink.new) }
-    ensures grown { Grows (O.held sink.old) (O.held sink.new) }
-    ensures stopped { result ≡ Err stop.Disk → EndsWithFault (O.held sink.old) (O.held sink.new) }
+    ensures ok { result ≡ Ok tt → D.tells → IsTied engine.old → GoesOn limits.now (byte ∷ []) pending.old (standing_at D.Disk K.Clock engine.old clock.old disk.old) (O.held sink.old) pending.new (standing_at D.Disk K.Clock engine.new clock.new disk.new) (O.held sink.new) }
+    ensures sink { result ≡ Err stop.Sink → D.tells → IsTied engine.old → BreaksOff limits.now (byte ∷ []) pending.old (standing_at D.Disk K.Clock engine.old clock.old disk.old) (O.held sink.old) (standing_at D.Disk K.Clock engine.new clock.new disk.new) (O.held sink.new) }
+    ensures disk { result ≡ Err stop.Disk → D.tells → IsTied engine.old → StopsIn limits.now (byte ∷ []) pending.old (standing_at D.Disk K.Clock engine.old clock.old disk.old) (O.held sink.old) (standing_at D.Disk K.Clock engine.new clock.new disk.new) (O.held sink.new) }
     ensures whole { OnOk result (IsWhole engine.new) }
-    ensures names { engine.new.names ≡ engine.old.names }
-    ensures limits { engine.new.limits ≡ engine.old.limits }
-    ensures engine { IsEngine engine.new }
-    ensures tied { IsTied engine.old → IsTied engine.new }
-    ensures backed { IsBacked (D.image disk.new) engine.new }
-    ensures images { Since D.moment D.image D.left_since (KeepsAboveIf (IsTied engine.old) engine.old.names) disk.old disk.new }
-    ensures elsewhere { LeavesOthers D.moment D.image D.left_since D.seen (length engine.old.names) disk.old disk.new }
-    ensures beside { O.rest sink.new ≡ O.rest sink.old }
-    ensures writes_later { O.faults sink.old ≤ O.faults sink.new }
-    ensures writes { result ≡ Err stop.Sink → Rose (O.faults sink.old) (O.faults sink.new) }
-    ensures cause { CountsWithin (length engine.old.names) (D.faults disk.old) (D.faults disk.new) (D.part_faults disk.old) (D.part_faults disk.new) (result ≡ Err stop.Disk) }
+    ensures serves { Serves D.Disk (result ≡ Err stop.Disk) engine.old engine.new disk.old disk.new }
+    ensures tells { TellsTo O.Sink result sink.old sink.new }
 {
     if byte == b'\n' {
         match answer_line(
@@ -241,31 +200,17 @@ pub fn feed<D: Disk, O: Sink, K: Clock, L: ledger::Ledger>(
     sink: &mut O,
     clock: &mut K,
 ) -> Result<(), Stop>
-    requires whole { IsWhole engine.old }
-    requires limits { engine.old.limits ≡ limits.now }
-    requires engine { IsEngine engine.old }
-    requires backed { IsBacked (D.image disk.old) engine.old }
+    requires ready { CanServe D.Disk limits.now engine.old disk.old }
     requires line { limits.now.line ≤ capacity pending.old.line }
     requires room { 512 ≤ capacity out.old }
     ensures line { limits.now.line ≤ capacity pending.new.line }
     ensures kept { capacity out.old ≤ capacity out.new }
-    ensures ok { result ≡ Ok tt → D.tells → IsTied engine.old → GoesOn limits.now bytes.now pending.old (standing engine.old (K.moments clock.old) (D.faults disk.old) (D.part_faults disk.old)) (O.held sink.old) pending.new (standing engine.new (K.moments clock.new) (D.faults disk.new) (D.part_faults disk.new)) (O.held sink.new) }
-    ensures sink { result ≡ Err stop.Sink → D.tells → IsTied engine.old → BreaksOff limits.now bytes.now pending.old (standing engine.old (K.moments clock.old) (D.faults disk.old) (D.part_faults disk.old)) (O.held sink.old) (standing engine.new (K.moments clock.new) (D.faults disk.new) (D.part_faults disk.new)) (O.held sink.new) }
-    ensures disk { result ≡ Err stop.Disk → D.tells → IsTied engine.old → StopsIn limits.now bytes.now pending.old (standing engine.old (K.moments clock.old) (D.faults disk.old) (D.part_faults disk.old)) (O.held sink.old) (standing engine.new (K.moments clock.new) (D.faults disk.new) (D.part_faults disk.new)) (O.held sink.new) }
-    ensures grown { Grows (O.held sink.old) (O.held sink.new) }
-    ensures stopped { result ≡ Err stop.Disk → EndsWithFault (O.held sink.old) (O.held sink.new) }
+    ensures ok { result ≡ Ok tt → D.tells → IsTied engine.old → GoesOn limits.now bytes.now pending.old (standing_at D.Disk K.Clock engine.old clock.old disk.old) (O.held sink.old) pending.new (standing_at D.Disk K.Clock engine.new clock.new disk.new) (O.held sink.new) }
+    ensures sink { result ≡ Err stop.Sink → D.tells → IsTied engine.old → BreaksOff limits.now bytes.now pending.old (standing_at D.Disk K.Clock engine.old clock.old disk.old) (O.held sink.old) (standing_at D.Disk K.Clock engine.new clock.new disk.new) (O.held sink.new) }
+    ensures disk { result ≡ Err stop.Disk → D.tells → IsTied engine.old → StopsIn limits.now bytes.now pending.old (standing_at D.Disk K.Clock engine.old clock.old disk.old) (O.held sink.old) (standing_at D.Disk K.Clock engine.new clock.new disk.new) (O.held sink.new) }
     ensures whole { OnOk result (IsWhole engine.new) }
-    ensures names { engine.new.names ≡ engine.old.names }
-    ensures limits { engine.new.limits ≡ engine.old.limits }
-    ensures engine { IsEngine engine.new }
-    ensures tied { IsTied engine.old → IsTied engine.new }
-    ensures backed { IsBacked (D.image disk.new) engine.new }
-    ensures images { Since D.moment D.image D.left_since (KeepsAboveIf (IsTied engine.old) engine.old.names) disk.old disk.new }
-    ensures elsewhere { LeavesOthers D.moment D.image D.left_since D.seen (length engine.old.names) disk.old disk.new }
-    ensures beside { O.rest sink.new ≡ O.rest sink.old }
-    ensures writes_later { O.faults sink.old ≤ O.faults sink.new }
-    ensures writes { result ≡ Err stop.Sink → Rose (O.faults sink.old) (O.faults sink.new) }
-    ensures cause { CountsWithin (length engine.old.names) (D.faults disk.old) (D.faults disk.new) (D.part_faults disk.old) (D.part_faults disk.new) (result ≡ Err stop.Disk) }
+    ensures serves { Serves D.Disk (result ≡ Err stop.Disk) engine.old engine.new disk.old disk.new }
+    ensures tells { TellsTo O.Sink result sink.old sink.new }
 {
     for byte in bytes {
         match take_byte(
@@ -290,28 +235,16 @@ pub fn finish<D: Disk, O: Sink, K: Clock, L: ledger::Ledger>(
     sink: &mut O,
     clock: &mut K,
 ) -> Result<(), Stop>
-    requires whole { IsWhole engine.old }
-    requires limits { engine.old.limits ≡ limits.now }
-    requires engine { IsEngine engine.old }
-    requires backed { IsBacked (D.image disk.old) engine.old }
+    requires ready { CanServe D.Disk limits.now engine.old disk.old }
     requires room { 512 ≤ capacity out.old }
-    ensures ok { result ≡ Ok tt → D.tells → IsTied engine.old → (first : Standing) (old : Option (List ℕ)) (fed : List ℕ) → Going limits.now first old fed pending.now (standing engine.old (K.moments clock.old) (D.faults disk.old) (D.part_faults disk.old)) (O.held sink.old) → Told limits.now first (lines_of fed) (standing engine.new (K.moments clock.new) (D.faults disk.new) (D.part_faults disk.new)) old (O.held sink.new) }
-    ensures sink { result ≡ Err stop.Sink → D.tells → IsTied engine.old → (first : Standing) (old : Option (List ℕ)) (fed : List ℕ) → Going limits.now first old fed pending.now (standing engine.old (K.moments clock.old) (D.faults disk.old) (D.part_faults disk.old)) (O.held sink.old) → Broken limits.now first old (lines_of fed) (standing engine.new (K.moments clock.new) (D.faults disk.new) (D.part_faults disk.new)) (O.held sink.new) }
-    ensures disk { result ≡ Err stop.Disk → D.tells → IsTied engine.old → (first : Standing) (old : Option (List ℕ)) (fed : List ℕ) → Going limits.now first old fed pending.now (standing engine.old (K.moments clock.old) (D.faults disk.old) (D.part_faults disk.old)) (O.held sink.old) → Stopped limits.now first old (lines_of fed) (standing engine.new (K.moments clock.new) (D.faults disk.new) (D.part_faults disk.new)) (O.held sink.new) }
+    ensures ok { result ≡ Ok tt → D.tells → IsTied engine.old → (first : Standing) (old : Option (List ℕ)) (fed : List ℕ) → Going limits.now first old fed pending.now (standing_at D.Disk K.Clock engine.old clock.old disk.old) (O.held sink.old) → Told limits.now first (lines_of fed) (standing_at D.Disk K.Clock engine.new clock.new disk.new) old (O.held sink.new) }
+    ensures sink { result ≡ Err stop.Sink → D.tells → IsTied engine.old → (first : Standing) (old : Option (List ℕ)) (fed : List ℕ) → Going limits.now first old fed pending.now (standing_at D.Disk K.Clock engine.old clock.old disk.old) (O.held sink.old) → Broken limits.now first old (lines_of fed) (standing_at D.Disk K.Clock engine.new clock.new disk.new) (O.held sink.new) }
+    ensures disk { result ≡ Err stop.Disk → D.tells → IsTied engine.old → (first : Standing) (old : Option (List ℕ)) (fed : List ℕ) → Going limits.now first old fed pending.now (standing_at D.Disk K.Clock engine.old clock.old disk.old) (O.held sink.old) → Stopped limits.now first old (lines_of fed) (standing_at D.Disk K.Clock engine.new clock.new disk.new) (O.held sink.new) }
     ensures whole { OnOk result (IsWhole engine.new) }
-    ensures stopped { result ≡ Err stop.Disk → (Stands limits.now.line pending.now [] → ⊥) × EndsWithFault (O.held sink.old) (O.held sink.new) }
+    ensures some { result ≡ Err stop.Disk → Stands limits.now.line pending.now [] → ⊥ }
     ensures clock { Stands limits.now.line pending.now [] → clock.new ≡ clock.old }
-    ensures names { engine.new.names ≡ engine.old.names }
-    ensures limits { engine.new.limits ≡ engine.old.limits }
-    ensures engine { IsEngine engine.new }
-    ensures tied { IsTied engine.old → IsTied engine.new }
-    ensures backed { IsBacked (D.image disk.new) engine.new }
-    ensures images { Since D.moment D.image D.left_since (KeepsAboveIf (IsTied engine.old) engine.old.names) disk.old disk.new }
-    ensures elsewhere { LeavesOthers D.moment D.image D.left_since D.seen (length engine.old.names) disk.old disk.new }
-    ensures beside { O.rest sink.new ≡ O.rest sink.old }
-    ensures writes_later { O.faults sink.old ≤ O.faults sink.new }
-    ensures writes { result ≡ Err stop.Sink → Rose (O.faults sink.old) (O.faults sink.new) }
-    ensures cause { CountsWithin (length engine.old.names) (D.faults disk.old) (D.faults disk.new) (D.part_faults disk.old) (D.part_faults disk.new) (result ≡ Err stop.Disk) }
+    ensures serves { Serves D.Disk (result ≡ Err stop.Disk) engine.old engine.new disk.old disk.new }
+    ensures tells { TellsTo O.Sink result sink.old sink.new }
 {
     if pending.is_empty() {
         return Ok(());

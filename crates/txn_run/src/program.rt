@@ -1,25 +1,24 @@
 //! A run: opens the parts, and answers each line of the source.
 ghost use Rattle.std.specs.Prelude.{◌≡◌, ◌≤◌, ◌∷◌, [], ◌⊎◌, ℕ, List, All, Ok, Err, length, true};
 ghost use Rattle.std.specs.Io.KnownBytes.{Consumes};
-ghost use Rattle.txn_base.specs.Disk.{Files, Since};
 ghost use Rattle.txn_base.specs.Limits.{InRange};
 ghost use Rattle.txn_base.specs.Names.{is_topic_name};
 ghost use Rattle.txn_base.specs.Outside.{Rose};
 ghost use Rattle.txn_base.specs.Room.{capacity};
+ghost use Rattle.txn_base.specs.Moves.{After, AtEachMoment};
 ghost use Rattle.txn_base.specs.declared.file_id.FileId.{FileId};
 ghost use Rattle.txn_base.specs.declared.usage.Usage.{Usage};
-ghost use Rattle.txn_engine.specs.Above.{StandsAbove, KeepsAbove, KeepsAboveIf};
-ghost use Rattle.txn_engine.specs.Kept.{IsEngine};
+ghost use Rattle.txn_engine.specs.Above.{StandsAbove, KeepsAbove};
 ghost use Rattle.txn_engine.specs.Opening.{AreParts, IsPartFile, IsFirstDamage, KeepsLists, KeepsAllDamaged};
-ghost use Rattle.txn_engine.specs.Told.{CountsWithin};
-ghost use Rattle.txn_engine.specs.View.{IsWhole, IsTied, IsBacked};
+ghost use Rattle.txn_engine.specs.Told.{FaultsWithin};
+ghost use Rattle.txn_engine.specs.View.{IsTied};
 ghost use Rattle.txn_model.specs.declared.world.World.{World};
 ghost use Rattle.txn_model.specs.Names.{NamesLawful};
-ghost use Rattle.txn_run.specs.Before.{IsSoundBefore};
 ghost use Rattle.txn_run.specs.Files.{LeavesOthers};
-ghost use Rattle.txn_run.specs.Going.{standing, Stands};
+ghost use Rattle.txn_run.specs.Going.{standing_at, Stands};
 ghost use Rattle.txn_run.specs.Promises.{KeepsPromises};
-ghost use Rattle.txn_run.specs.Run.{Ended, FaultIsLast, IsRan, IsOpened, IsUnstarted, IsQuiet, IsAnswered, RunOf, Took};
+ghost use Rattle.txn_run.specs.Run.{Ended, FaultIsLast, IsRan, IsOpened, IsUnstarted, IsQuiet, IsAnswered, Asks, DiskStopped, RunsOn, Took};
+ghost use Rattle.txn_run.specs.Serving.{CanServe, Serves};
 ghost use Rattle.txn_run.specs.Words.{command_of};
 ghost use Rattle.txn_run.specs.declared.status.RunStatus.TheVariants as status;
 
@@ -52,32 +51,35 @@ pub fn run<D: Disk, I: Source, O: Sink, K: Clock>(
     clock: &mut K,
 ) -> RunStatus
     requires limits { InRange limits.now }
-    ensures answers { (name : List ℕ) → command_of words.now ≡ Ok name → D.tells → (sound : IsSoundBefore (name ∷ []) (D.seen disk.old)) → RunOf result limits.now (name ∷ []) sound.world (K.moments clock.old) (K.moments clock.new) (D.image disk.old) (D.image disk.new) (D.faults disk.old) (D.faults disk.new) (D.part_faults disk.old) (D.part_faults disk.new) (I.left source.old) (I.left source.new) (O.held sink.old) (O.held sink.new) }
-    ensures images { (name : List ℕ) → command_of words.now ≡ Ok name → Since D.moment D.image D.left_since (KeepsAbove (name ∷ [])) disk.old disk.new }
-    ensures always { (name : List ℕ) → command_of words.now ≡ Ok name → (floor : World) → ((c : Files) → D.image disk.old c → StandsAbove (name ∷ []) floor c) → (c : Files) → D.left_since disk.new (D.moment disk.old) c → StandsAbove (name ∷ []) floor c }
+    ensures answers {
+        Asks words.now (λ names.
+            RunsOn D.Disk I.Source O.Sink K.Clock result limits.now names disk.old disk.new source.old source.new sink.old sink.new clock.old clock.new)
+    }
+    ensures images { Asks words.now (λ names. After D.Disk (KeepsAbove names) disk.old disk.new) }
+    ensures always { Asks words.now (λ names. (floor : World) → AtEachMoment D.Disk (StandsAbove names floor) (StandsAbove names floor) disk.old disk.new) }
 
     // In the words of transactions: at every moment each image keeps the promises, and nothing of what stood lapses.
-    ensures promises { (name : List ℕ) → command_of words.now ≡ Ok name → (floor : World) → ((c : Files) → D.image disk.old c → StandsAbove (name ∷ []) floor c) → (c : Files) → D.left_since disk.new (D.moment disk.old) c → KeepsPromises (name ∷ []) floor c }
+    ensures promises { Asks words.now (λ names. (floor : World) → AtEachMoment D.Disk (StandsAbove names floor) (KeepsPromises names floor) disk.old disk.new) }
 
     // Only the two ledgers change. Where no line was looked at, each file keeps the list that it stands for, and one in which
     // an open gate begins no frame stays as it was.
-    ensures elsewhere { LeavesOthers D.moment D.image D.left_since D.seen 1 disk.old disk.new }
-    ensures lists { IsQuiet result → Since D.moment D.image D.left_since KeepsLists disk.old disk.new }
+    ensures elsewhere { LeavesOthers D.Disk 1 disk.old disk.new }
+    ensures lists { IsQuiet result → After D.Disk KeepsLists disk.old disk.new }
     ensures uncut { IsQuiet result → D.tells → KeepsAllDamaged (D.seen disk.old) (D.seen disk.new) }
     ensures usage { (u : Usage) → command_of words.now ≡ Err u → ((result ≡ status.Usage u) ⊎ (result ≡ status.NoMemory)) × (disk.new ≡ disk.old) × (source.new ≡ source.old) × (sink.new ≡ sink.old) }
     ensures command { (u : Usage) → result ≡ status.Usage u → command_of words.now ≡ Err u }
     ensures undamaged { IsAnswered result → D.tells → AreParts 1 (D.seen disk.old) }
     ensures damaged { (file : FileId) (entry : ℕ) → result ≡ status.Damaged file entry → IsPartFile 1 file × (D.tells → IsFirstDamage 1 (D.seen disk.old) file entry) }
     ensures quiet { IsQuiet result → (source.new ≡ source.old) × (sink.new ≡ sink.old) }
-    ensures stopped { result ≡ status.DiskFault → ((source.new ≡ source.old) × (sink.new ≡ sink.old) × (clock.new ≡ clock.old) × Since D.moment D.image D.left_since KeepsLists disk.old disk.new) ⊎ (FaultIsLast (I.left source.old) (I.left source.new) (O.held sink.old) (O.held sink.new) × (D.tells → AreParts 1 (D.seen disk.old))) }
+    ensures stopped { result ≡ status.DiskFault → DiskStopped D.Disk I.Source O.Sink 1 disk.old disk.new source.old source.new sink.old sink.new clock.old clock.new }
     ensures taken { Took result limits.now (I.left source.old) (I.left source.new) clock.old clock.new }
     ensures clock { IsUnstarted result → clock.new ≡ clock.old }
     ensures read { result ≡ status.ReadFault → Rose (I.faults source.old) (I.faults source.new) }
     ensures write { result ≡ status.WriteFault → Rose (O.faults sink.old) (O.faults sink.new) }
-    ensures disk { CountsWithin 1 (D.faults disk.old) (D.faults disk.new) (D.part_faults disk.old) (D.part_faults disk.new) (result ≡ status.DiskFault) }
+    ensures disk { FaultsWithin D.Disk 1 disk.old disk.new (result ≡ status.DiskFault) }
 {
     match names_of(alloc, words) {
-        Ok(names) => with_count::<Brand, D, I, O, K>(
+        Ok(names) => run_over::<Brand, D, I, O, K>(
             alloc,
             Blank::new(1),
             names,
@@ -91,8 +93,9 @@ pub fn run<D: Disk, I: Source, O: Sink, K: Clock>(
     }
 }
 
-/// The same with the names of the topics, and a blank for the count of records that are read.
-fn with_count<L: ledger::Ledger, D: Disk, I: Source, O: Sink, K: Clock>(
+/// The same with the names of the topics, and a blank for the count of records that are read: opens the parts, and answers
+/// each line of the source.
+fn run_over<L: ledger::Ledger, D: Disk, I: Source, O: Sink, K: Clock>(
     alloc: Global,
     blank: Blank,
     names: Vec<Text>,
@@ -108,60 +111,29 @@ fn with_count<L: ledger::Ledger, D: Disk, I: Source, O: Sink, K: Clock>(
     requires names { NamesLawful names.items }
     requires topics { All (λ name. is_topic_name name ≡ true) names.items }
     requires limits { InRange limits.now }
-    ensures answers { D.tells → (sound : IsSoundBefore names.items (D.seen disk.old)) → RunOf result limits.now names.items sound.world (K.moments clock.old) (K.moments clock.new) (D.image disk.old) (D.image disk.new) (D.faults disk.old) (D.faults disk.new) (D.part_faults disk.old) (D.part_faults disk.new) (I.left source.old) (I.left source.new) (O.held sink.old) (O.held sink.new) }
-    ensures images { Since D.moment D.image D.left_since (KeepsAbove names.items) disk.old disk.new }
-    ensures lists { IsQuiet result → Since D.moment D.image D.left_since KeepsLists disk.old disk.new }
+    ensures answers {
+        RunsOn D.Disk I.Source O.Sink K.Clock result limits.now names.items disk.old disk.new source.old source.new sink.old sink.new clock.old clock.new
+    }
+    ensures images { After D.Disk (KeepsAbove names.items) disk.old disk.new }
+    ensures lists { IsQuiet result → After D.Disk KeepsLists disk.old disk.new }
     ensures uncut { IsQuiet result → D.tells → KeepsAllDamaged (D.seen disk.old) (D.seen disk.new) }
-    ensures elsewhere { LeavesOthers D.moment D.image D.left_since D.seen (length names.items) disk.old disk.new }
+    ensures elsewhere { LeavesOthers D.Disk (length names.items) disk.old disk.new }
     ensures statuses { IsOpened result }
     ensures undamaged { IsAnswered result → D.tells → AreParts (length names.items) (D.seen disk.old) }
     ensures damaged { (file : FileId) (entry : ℕ) → result ≡ status.Damaged file entry → IsPartFile (length names.items) file × (D.tells → IsFirstDamage (length names.items) (D.seen disk.old) file entry) }
     ensures quiet { IsQuiet result → (source.new ≡ source.old) × (sink.new ≡ sink.old) }
-    ensures stopped { result ≡ status.DiskFault → ((source.new ≡ source.old) × (sink.new ≡ sink.old) × (clock.new ≡ clock.old) × Since D.moment D.image D.left_since KeepsLists disk.old disk.new) ⊎ (FaultIsLast (I.left source.old) (I.left source.new) (O.held sink.old) (O.held sink.new) × (D.tells → AreParts (length names.items) (D.seen disk.old))) }
+    ensures stopped { result ≡ status.DiskFault → DiskStopped D.Disk I.Source O.Sink (length names.items) disk.old disk.new source.old source.new sink.old sink.new clock.old clock.new }
     ensures taken { Took result limits.now (I.left source.old) (I.left source.new) clock.old clock.new }
     ensures clock { IsUnstarted result → clock.new ≡ clock.old }
     ensures read { result ≡ status.ReadFault → Rose (I.faults source.old) (I.faults source.new) }
     ensures write { result ≡ status.WriteFault → Rose (O.faults sink.old) (O.faults sink.new) }
-    ensures disk { CountsWithin (length names.items) (D.faults disk.old) (D.faults disk.new) (D.part_faults disk.old) (D.part_faults disk.new) (result ≡ status.DiskFault) }
-{
-    let mut steps = Steps::<L>::new(blank);
-    run_over(alloc, names, limits, disk, &mut steps, source, sink, clock)
-}
-
-/// Opens the parts, and answers each line of the source.
-fn run_over<L: ledger::Ledger, D: Disk, I: Source, O: Sink, K: Clock>(
-    alloc: Global,
-    names: Vec<Text>,
-    limits: &Limits,
-    disk: &mut D,
-    steps: &mut Steps<L>,
-    source: &mut I,
-    sink: &mut O,
-    clock: &mut K,
-) -> RunStatus
-    requires names { NamesLawful names.items }
-    requires topics { All (λ name. is_topic_name name ≡ true) names.items }
-    requires limits { InRange limits.now }
-    ensures answers { D.tells → (sound : IsSoundBefore names.items (D.seen disk.old)) → RunOf result limits.now names.items sound.world (K.moments clock.old) (K.moments clock.new) (D.image disk.old) (D.image disk.new) (D.faults disk.old) (D.faults disk.new) (D.part_faults disk.old) (D.part_faults disk.new) (I.left source.old) (I.left source.new) (O.held sink.old) (O.held sink.new) }
-    ensures images { Since D.moment D.image D.left_since (KeepsAbove names.items) disk.old disk.new }
-    ensures lists { IsQuiet result → Since D.moment D.image D.left_since KeepsLists disk.old disk.new }
-    ensures uncut { IsQuiet result → D.tells → KeepsAllDamaged (D.seen disk.old) (D.seen disk.new) }
-    ensures elsewhere { LeavesOthers D.moment D.image D.left_since D.seen (length names.items) disk.old disk.new }
-    ensures statuses { IsOpened result }
-    ensures undamaged { IsAnswered result → D.tells → AreParts (length names.items) (D.seen disk.old) }
-    ensures damaged { (file : FileId) (entry : ℕ) → result ≡ status.Damaged file entry → IsPartFile (length names.items) file × (D.tells → IsFirstDamage (length names.items) (D.seen disk.old) file entry) }
-    ensures quiet { IsQuiet result → (source.new ≡ source.old) × (sink.new ≡ sink.old) }
-    ensures stopped { result ≡ status.DiskFault → ((source.new ≡ source.old) × (sink.new ≡ sink.old) × (clock.new ≡ clock.old) × Since D.moment D.image D.left_since KeepsLists disk.old disk.new) ⊎ (FaultIsLast (I.left source.old) (I.left source.new) (O.held sink.old) (O.held sink.new) × (D.tells → AreParts (length names.items) (D.seen disk.old))) }
-    ensures taken { Took result limits.now (I.left source.old) (I.left source.new) clock.old clock.new }
-    ensures clock { IsUnstarted result → clock.new ≡ clock.old }
-    ensures read { result ≡ status.ReadFault → Rose (I.faults source.old) (I.faults source.new) }
-    ensures write { result ≡ status.WriteFault → Rose (O.faults sink.old) (O.faults sink.new) }
-    ensures disk { CountsWithin (length names.items) (D.faults disk.old) (D.faults disk.new) (D.part_faults disk.old) (D.part_faults disk.new) (result ≡ status.DiskFault) }
+    ensures disk { FaultsWithin D.Disk (length names.items) disk.old disk.new (result ≡ status.DiskFault) }
 {
     let Ok(room) = room_for(alloc, limits.line) else {
         return RunStatus::NoMemory;
     };
-    match Engine::open_disk(alloc, names, limits, disk, steps) {
+    let mut steps = Steps::<L>::new(blank);
+    match Engine::open_disk(alloc, names, limits, disk, &mut steps) {
         Ok(engine) => {
             let Room {
                 mut chunk,
@@ -177,7 +149,7 @@ fn run_over<L: ledger::Ledger, D: Disk, I: Source, O: Sink, K: Clock>(
                 &mut out,
                 &mut engine,
                 disk,
-                steps,
+                &mut steps,
                 source,
                 sink,
                 clock,
@@ -205,22 +177,14 @@ fn run_in<L: ledger::Ledger, D: Disk, I: Source, O: Sink, K: Clock>(
     requires pending { Stands limits.now.line pending.old [] }
     requires line { limits.now.line ≤ capacity pending.old.line }
     requires out { 512 ≤ capacity out.old }
-    requires whole { IsWhole engine.old }
-    requires limits { engine.old.limits ≡ limits.now }
-    requires engine { IsEngine engine.old }
-    requires backed { IsBacked (D.image disk.old) engine.old }
-    ensures answers { D.tells → IsTied engine.old → (taken : List ℕ) × Consumes (I.left source.old) (I.left source.new) taken × Ended result limits.now (standing engine.old (K.moments clock.old) (D.faults disk.old) (D.part_faults disk.old)) (O.held sink.old) taken (standing engine.new (K.moments clock.new) (D.faults disk.new) (D.part_faults disk.new)) (O.held sink.new) (I.left source.new) }
+    requires ready { CanServe D.Disk limits.now engine.old disk.old }
+    ensures answers { D.tells → IsTied engine.old → (taken : List ℕ) × Consumes (I.left source.old) (I.left source.new) taken × Ended result limits.now (standing_at D.Disk K.Clock engine.old clock.old disk.old) (O.held sink.old) taken (standing_at D.Disk K.Clock engine.new clock.new disk.new) (O.held sink.new) (I.left source.new) }
     ensures taken { Took result limits.now (I.left source.old) (I.left source.new) clock.old clock.new }
     ensures stopped { result ≡ status.DiskFault → FaultIsLast (I.left source.old) (I.left source.new) (O.held sink.old) (O.held sink.new) }
     ensures statuses { IsRan result }
-    ensures names { engine.new.names ≡ engine.old.names }
-    ensures engine { IsEngine engine.new }
-    ensures backed { IsBacked (D.image disk.new) engine.new }
-    ensures images { Since D.moment D.image D.left_since (KeepsAboveIf (IsTied engine.old) engine.old.names) disk.old disk.new }
-    ensures elsewhere { LeavesOthers D.moment D.image D.left_since D.seen (length engine.old.names) disk.old disk.new }
+    ensures serves { Serves D.Disk (result ≡ status.DiskFault) engine.old engine.new disk.old disk.new }
     ensures read { result ≡ status.ReadFault → Rose (I.faults source.old) (I.faults source.new) }
     ensures write { result ≡ status.WriteFault → Rose (O.faults sink.old) (O.faults sink.new) }
-    ensures cause { CountsWithin (length engine.old.names) (D.faults disk.old) (D.faults disk.new) (D.part_faults disk.old) (D.part_faults disk.new) (result ≡ status.DiskFault) }
 {
     let input = limits.input;
     let mut taken = 0u64;

@@ -3,9 +3,10 @@ ghost use Rattle.std.specs.Prelude.{◌≡◌, ◌≤◌, [], ◌∷◌, None, S
 ghost use Rattle.txn_base.specs.declared.file_id.FileId.{FileId};
 ghost use Rattle.txn_base.specs.Content.{Backed, Appends};
 ghost use Rattle.txn_base.specs.Decoded.{topic_entry_of};
-ghost use Rattle.txn_base.specs.Disk.{Since, HasPartCause};
+ghost use Rattle.txn_base.specs.Disk.{ChangesOnly};
 ghost use Rattle.txn_base.specs.Records.{topic_record};
 ghost use Rattle.txn_base.specs.Room.{capacity};
+ghost use Rattle.txn_base.specs.Moves.{After, FailsIn};
 ghost use Rattle.txn_model.specs.Skeletons.{topic_skeletons};
 ghost use Rattle.txn_model.specs.Topic.{marker_of};
 ghost use Rattle.txn_records.specs.Topics.{marker_of as marker_entry};
@@ -59,9 +60,9 @@ impl<R: RecordLog> Topic<R> {
         ensures err { OnErr result (self.new ≡ fenced self.old (marker_entry txn decision ∷ [])) }
         ensures tied { IsFrontOf self.old → IsFrontOf self.new }
         ensures backed { Backed R.stands (D.image disk.new) self.new.content }
-        ensures images { Since D.moment D.image D.left_since (Appends R.mine R.stands self.old.content (batch_of (marker_entry txn decision ∷ []))) disk.old disk.new }
-        ensures others { (other : FileId) → (R.mine self.old.content.key other → ⊥) → D.seen disk.new other ≡ D.seen disk.old other }
-        ensures cause { HasPartCause self.old.content.key.part (D.faults disk.old) (D.faults disk.new) (D.part_faults disk.old) (D.part_faults disk.new) result }
+        ensures images { After D.Disk (Appends R.mine R.stands self.old.content (batch_of (marker_entry txn decision ∷ []))) disk.old disk.new }
+        ensures others { ChangesOnly (R.mine self.old.content.key) (D.seen disk.old) (D.seen disk.new) }
+        ensures cause { FailsIn D.Disk self.old.content.key.part disk.old disk.new result }
     {
         if self.front.marker(txn).is_some() {
             return Ok(());
@@ -83,9 +84,9 @@ impl<R: RecordLog> Topic<R> {
         ensures err { OnErr result (self.new ≡ fenced self.old (marker_entry txn decision ∷ [])) }
         ensures tied { IsFrontOf self.old → IsFrontOf self.new }
         ensures backed { Backed R.stands (D.image disk.new) self.new.content }
-        ensures images { Since D.moment D.image D.left_since (Appends R.mine R.stands self.old.content (batch_of (marker_entry txn decision ∷ []))) disk.old disk.new }
-        ensures others { (other : FileId) → (R.mine self.old.content.key other → ⊥) → D.seen disk.new other ≡ D.seen disk.old other }
-        ensures cause { HasPartCause self.old.content.key.part (D.faults disk.old) (D.faults disk.new) (D.part_faults disk.old) (D.part_faults disk.new) result }
+        ensures images { After D.Disk (Appends R.mine R.stands self.old.content (batch_of (marker_entry txn decision ∷ []))) disk.old disk.new }
+        ensures others { ChangesOnly (R.mine self.old.content.key) (D.seen disk.old) (D.seen disk.new) }
+        ensures cause { FailsIn D.Disk self.old.content.key.part disk.old disk.new result }
     {
         let kind = CoreEntry::Marker { txn, decision };
         write_marker(txn, decision, &mut self.marker);

@@ -2,8 +2,9 @@
 ghost use Rattle.std.specs.Prelude.{◌≡◌, ◌<◌, ◌≤◌, ◌+◌, ◌-◌, ◌^◌, ◌++◌, ℕ, IsTrue, Ok, Err, [], true, length, slice_index_or, IfOk, IfErr, OnOk, OnErr, is_none, is_some};
 ghost use Rattle.txn_base.specs.declared.file_id.FileId.{FileId};
 ghost use Rattle.txn_base.specs.Content.{settled, looked_at, Backed, Settles};
-ghost use Rattle.txn_base.specs.Disk.{Since, CountsFaults};
+ghost use Rattle.txn_base.specs.Disk.{ChangesOnly};
 ghost use Rattle.txn_base.specs.Frames.{records};
+ghost use Rattle.txn_base.specs.Moves.{After, FaultsIn};
 ghost use Rattle.txn_model.specs.Skeletons.{topic_skeleton, topic_skeletons};
 ghost use Rattle.txn_model.specs.Topic as topic;
 ghost use Rattle.txn_model.specs.Topic.{marker_of, part_allows, TopicLawful};
@@ -44,9 +45,9 @@ impl<R: RecordLog> Topic<R> {
         ensures first_bad { (place : ℕ) → result ≡ Err (MendError.Damaged place) → D.tells → IsFrontOf self.old → IsFirstBad self.new.content.batches place }
         ensures tied { D.tells → IsFrontOf self.old → IsFrontOf self.new }
         ensures backed { Backed R.stands (D.image disk.new) self.new.content }
-        ensures images { Since D.moment D.image D.left_since (Settles R.mine R.stands self.old.content) disk.old disk.new }
-        ensures others { (other : FileId) → (R.mine self.old.content.key other → ⊥) → D.seen disk.new other ≡ D.seen disk.old other }
-        ensures cause { CountsFaults self.old.content.key.part (D.faults disk.old) (D.faults disk.new) (D.part_faults disk.old) (D.part_faults disk.new) (result ≡ Err MendError.Fault) }
+        ensures images { After D.Disk (Settles R.mine R.stands self.old.content) disk.old disk.new }
+        ensures others { ChangesOnly (R.mine self.old.content.key) (D.seen disk.old) (D.seen disk.new) }
+        ensures cause { FaultsIn D.Disk self.old.content.key.part disk.old disk.new (result ≡ Err MendError.Fault) }
     {
         if self.whole {
             let total = self.log.len();
@@ -78,7 +79,7 @@ impl<R: RecordLog> Topic<R> {
         ensures first_bad { (place : ℕ) → result ≡ Err (MendError.Damaged place) → D.tells → IsFrontOf self.now → IsFirstBad self.now.content.batches place }
         ensures counted { OnOk result (steps.new ≡ steps.old + step_of self.now (total_of self.now)) }
         ensures steps_most { steps.new ≤ steps.old + step_of self.now (total_of self.now) }
-        ensures reads { OnlyReads D.moment D.image D.left_since D.seen D.faults D.part_faults self.now.content.key.part (result ≡ Err MendError.Fault) disk.old disk.new }
+        ensures reads { OnlyReads D.Disk self.now.content.key.part (result ≡ Err MendError.Fault) disk.old disk.new }
     {
         let at = self.front.len();
         let left = self.log.len() - at;
@@ -108,7 +109,7 @@ impl<R: RecordLog> Topic<R> {
         ensures damaged { (at : ℕ) → result ≡ Err (MendError.Damaged at) → at ≡ place }
         ensures bad { (at : ℕ) → result ≡ Err (MendError.Damaged at) → D.tells → IsBad (self.now.front ++ staged.now) (slice_index_or (records self.now.content.batches) place []) }
         ensures counted { steps.new ≡ steps.old + 1 }
-        ensures reads { OnlyReads D.moment D.image D.left_since D.seen D.faults D.part_faults self.now.content.key.part (result ≡ Err MendError.Fault) disk.old disk.new }
+        ensures reads { OnlyReads D.Disk self.now.content.key.part (result ≡ Err MendError.Fault) disk.old disk.new }
     {
         let bytes = match self.log.get(self.alloc, disk, place, steps) {
             Ok(bytes) => bytes,
@@ -135,9 +136,9 @@ fn settle<D: Disk, R: RecordLog>(log: &mut R, disk: &mut D) -> Result<(), MendEr
     ensures found { D.tells → OnOk result (R.stands (R.content log.old).key (D.seen disk.old) (R.content log.new).batches) }
     ensures unfound { OnErr result ((R.content log.new).standing ≡ settled → ⊥) }
     ensures backed { Backed R.stands (D.image disk.new) (R.content log.new) }
-    ensures images { Since D.moment D.image D.left_since (Settles R.mine R.stands (R.content log.old)) disk.old disk.new }
-    ensures others { (other : FileId) → (R.mine (R.content log.old).key other → ⊥) → D.seen disk.new other ≡ D.seen disk.old other }
-    ensures cause { CountsFaults (R.content log.old).key.part (D.faults disk.old) (D.faults disk.new) (D.part_faults disk.old) (D.part_faults disk.new) (result ≡ Err MendError.Fault) }
+    ensures images { After D.Disk (Settles R.mine R.stands (R.content log.old)) disk.old disk.new }
+    ensures others { ChangesOnly (R.mine (R.content log.old).key) (D.seen disk.old) (D.seen disk.new) }
+    ensures cause { FaultsIn D.Disk (R.content log.old).key.part disk.old disk.new (result ≡ Err MendError.Fault) }
 {
     if log.is_settled() {
         return Ok(());

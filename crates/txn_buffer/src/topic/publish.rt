@@ -3,9 +3,10 @@ ghost use Rattle.std.specs.Prelude.{◌≡◌, ◌<◌, ◌≤◌, ◌+◌, ◌�
 ghost use Rattle.txn_base.specs.declared.file_id.FileId.{FileId};
 ghost use Rattle.txn_base.specs.Bytes.{contents_of};
 ghost use Rattle.txn_base.specs.Content.{Backed, Appends};
-ghost use Rattle.txn_base.specs.Disk.{Since, CountsFaults};
+ghost use Rattle.txn_base.specs.Disk.{ChangesOnly};
 ghost use Rattle.txn_base.specs.Frames.{frame};
 ghost use Rattle.txn_base.specs.Decoded.{topic_entry_of};
+ghost use Rattle.txn_base.specs.Moves.{FaultsIn, After};
 ghost use Rattle.txn_model.specs.Skeletons.{topic_skeletons};
 ghost use Rattle.txn_model.specs.Topic.{marker_of};
 ghost use Rattle.txn_buffer.specs.Adding.{AreBodies, ArePublished, messages_of, IsUnmarked, opens_for};
@@ -37,9 +38,9 @@ impl<R: RecordLog> Topic<R> {
         ensures no_memory { result ≡ Err TopicError.NoMemory → (self.new ≡ self.old) × (disk.new ≡ disk.old) }
         ensures tied { IsFrontOf self.old → IsFrontOf self.new }
         ensures backed { Backed R.stands (D.image disk.new) self.new.content }
-        ensures images { Since D.moment D.image D.left_since (Appends R.mine R.stands self.old.content (batch_of (messages_of None (contents_of bodies.now)))) disk.old disk.new }
-        ensures others { (other : FileId) → (R.mine self.old.content.key other → ⊥) → D.seen disk.new other ≡ D.seen disk.old other }
-        ensures cause { CountsFaults self.old.content.key.part (D.faults disk.old) (D.faults disk.new) (D.part_faults disk.old) (D.part_faults disk.new) (result ≡ Err TopicError.Fault) }
+        ensures images { After D.Disk (Appends R.mine R.stands self.old.content (batch_of (messages_of None (contents_of bodies.now)))) disk.old disk.new }
+        ensures others { ChangesOnly (R.mine self.old.content.key) (D.seen disk.old) (D.seen disk.new) }
+        ensures cause { FaultsIn D.Disk self.old.content.key.part disk.old disk.new (result ≡ Err TopicError.Fault) }
     {
         self.add_messages(disk, None, bodies)
     }
@@ -65,9 +66,9 @@ impl<R: RecordLog> Topic<R> {
         ensures no_memory { result ≡ Err TopicError.NoMemory → (self.new ≡ self.old) × (disk.new ≡ disk.old) }
         ensures tied { IsFrontOf self.old → IsFrontOf self.new }
         ensures backed { Backed R.stands (D.image disk.new) self.new.content }
-        ensures images { Since D.moment D.image D.left_since (Appends R.mine R.stands self.old.content (batch_of (messages_of (Some txn) (contents_of bodies.now)))) disk.old disk.new }
-        ensures others { (other : FileId) → (R.mine self.old.content.key other → ⊥) → D.seen disk.new other ≡ D.seen disk.old other }
-        ensures cause { CountsFaults self.old.content.key.part (D.faults disk.old) (D.faults disk.new) (D.part_faults disk.old) (D.part_faults disk.new) (result ≡ Err TopicError.Fault) }
+        ensures images { After D.Disk (Appends R.mine R.stands self.old.content (batch_of (messages_of (Some txn) (contents_of bodies.now)))) disk.old disk.new }
+        ensures others { ChangesOnly (R.mine self.old.content.key) (D.seen disk.old) (D.seen disk.new) }
+        ensures cause { FaultsIn D.Disk self.old.content.key.part disk.old disk.new (result ≡ Err TopicError.Fault) }
     {
         self.add_messages(disk, Some(txn), bodies)
     }
@@ -92,9 +93,9 @@ impl<R: RecordLog> Topic<R> {
         ensures no_memory { result ≡ Err TopicError.NoMemory → (self.new ≡ self.old) × (disk.new ≡ disk.old) }
         ensures tied { IsFrontOf self.old → IsFrontOf self.new }
         ensures backed { Backed R.stands (D.image disk.new) self.new.content }
-        ensures images { Since D.moment D.image D.left_since (Appends R.mine R.stands self.old.content (batch_of (messages_of txn (contents_of bodies.now)))) disk.old disk.new }
-        ensures others { (other : FileId) → (R.mine self.old.content.key other → ⊥) → D.seen disk.new other ≡ D.seen disk.old other }
-        ensures cause { CountsFaults self.old.content.key.part (D.faults disk.old) (D.faults disk.new) (D.part_faults disk.old) (D.part_faults disk.new) (result ≡ Err TopicError.Fault) }
+        ensures images { After D.Disk (Appends R.mine R.stands self.old.content (batch_of (messages_of txn (contents_of bodies.now)))) disk.old disk.new }
+        ensures others { ChangesOnly (R.mine self.old.content.key) (D.seen disk.old) (D.seen disk.new) }
+        ensures cause { FaultsIn D.Disk self.old.content.key.part disk.old disk.new (result ≡ Err TopicError.Fault) }
     {
         let place = self.log.len();
         if !has_room(&self.limits, place, bodies.len()) {

@@ -3,8 +3,9 @@ ghost use Rattle.std.specs.Prelude.{◌≡◌, ◌<◌, ◌≤◌, ◌+◌, ◌-
 ghost use Rattle.txn_base.specs.declared.entry.TopicEntry.{TopicEntry};
 ghost use Rattle.txn_base.specs.Content.{Backed};
 ghost use Rattle.txn_base.specs.Decoded.{topic_entry_of};
-ghost use Rattle.txn_base.specs.Disk.{Since, Same, CountsFaults};
+ghost use Rattle.txn_base.specs.Disk.{Same};
 ghost use Rattle.txn_base.specs.Frames.{records};
+ghost use Rattle.txn_base.specs.Moves.{After, FaultsIn};
 ghost use Rattle.txn_model.specs.Entries as model;
 ghost use Rattle.txn_model.specs.Skeletons.{topic_skeleton, topic_skeletons};
 ghost use Rattle.txn_model.specs.Topic.{limit_of, read_slice, shows};
@@ -48,8 +49,8 @@ impl<R: RecordLog> Topic<R> {
         ensures steps_next { D.tells → IsFrontOf self.now → IfOk result (λ messages. ReadsUpTo self.now.front first messages (steps.new - steps.old)) }
         ensures seen { D.seen disk.new ≡ D.seen disk.old }
         ensures backed { Backed R.stands (D.image disk.new) self.now.content }
-        ensures images { Since D.moment D.image D.left_since Same disk.old disk.new }
-        ensures cause { CountsFaults self.now.content.key.part (D.faults disk.old) (D.faults disk.new) (D.part_faults disk.old) (D.part_faults disk.new) (result ≡ Err TopicError.Fault) }
+        ensures images { After D.Disk Same disk.old disk.new }
+        ensures cause { FaultsIn D.Disk self.now.content.key.part disk.old disk.new (result ≡ Err TopicError.Fault) }
     {
         let end = self.front.limit();
         let mut slice = Slice::new(self.alloc, &self.limits, max);
@@ -79,7 +80,7 @@ impl<R: RecordLog> Topic<R> {
         ensures undamaged { (at : ℕ) → D.tells → IsFrontOf self.now → result ≡ Err (TopicError.Damaged at) → ⊥ }
         ensures not_full { (count : ℕ) → result ≡ Err (TopicError.Full count) → ⊥ }
         ensures counted { steps.new ≡ steps.old + 1 }
-        ensures reads { OnlyReads D.moment D.image D.left_since D.seen D.faults D.part_faults self.now.content.key.part (result ≡ Err TopicError.Fault) disk.old disk.new }
+        ensures reads { OnlyReads D.Disk self.now.content.key.part (result ≡ Err TopicError.Fault) disk.old disk.new }
     {
         match self.log.get(self.alloc, disk, place, steps) {
             Ok(bytes) => self.shown_of(&bytes, place),

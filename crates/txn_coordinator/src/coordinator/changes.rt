@@ -2,8 +2,9 @@
 ghost use Rattle.std.specs.Prelude.{◌≡◌, ◌≤◌, ◌+◌, ◌^◌, true, false, None, Err, IsTrue, IsOk, IfOk, IfErr, OnOk, OnErr, MatchOption};
 ghost use Rattle.txn_base.specs.declared.file_id.FileId.{FileId};
 ghost use Rattle.txn_base.specs.Content.{Backed, Appends};
-ghost use Rattle.txn_base.specs.Disk.{Since, HasPartCause, CountsFaults};
+ghost use Rattle.txn_base.specs.Disk.{ChangesOnly};
 ghost use Rattle.txn_base.specs.Records.{IsCoordEntry};
+ghost use Rattle.txn_base.specs.Moves.{After, FailsIn, FaultsIn};
 ghost use Rattle.txn_model.specs.Skeletons.{coord_skeleton, coord_skeletons};
 ghost use Rattle.txn_model.specs.Coord.{coord_allows, is_open};
 ghost use Rattle.txn_model.specs.Deadlines.{is_undriven};
@@ -43,9 +44,9 @@ impl<R: RecordLog> Coordinator<R> {
         ensures unwritten { result ≡ Err CoordError.NoMemory → disk.new ≡ disk.old }
         ensures tied { IsFrontOf self.old → IsFrontOf self.new }
         ensures backed { Backed R.stands (D.image disk.new) (self.new).content }
-        ensures images { Since D.moment D.image D.left_since (Appends R.mine R.stands (self.old).content (coord_batch entry)) disk.old disk.new }
-        ensures others { (other : FileId) → (R.mine (self.old).content.key other → ⊥) → D.seen disk.new other ≡ D.seen disk.old other }
-        ensures cause { CountsFaults (self.old).content.key.part (D.faults disk.old) (D.faults disk.new) (D.part_faults disk.old) (D.part_faults disk.new) (result ≡ Err CoordError.Fault) }
+        ensures images { After D.Disk (Appends R.mine R.stands (self.old).content (coord_batch entry)) disk.old disk.new }
+        ensures others { ChangesOnly (R.mine (self.old).content.key) (D.seen disk.old) (D.seen disk.new) }
+        ensures cause { FaultsIn D.Disk (self.old).content.key.part disk.old disk.new (result ≡ Err CoordError.Fault) }
     {
         self.log.reserve(2, FRAME)?;
         self.table.reserve(1)?;
@@ -92,9 +93,9 @@ impl<R: RecordLog> Coordinator<R> {
         ensures unwritten { IfErr result (λ e. (e ≡ CoordError.Fault → ⊥) → disk.new ≡ disk.old) }
         ensures tied { IsFrontOf self.old → IsFrontOf self.new }
         ensures backed { Backed R.stands (D.image disk.new) (self.new).content }
-        ensures images { Since D.moment D.image D.left_since (Appends R.mine R.stands (self.old).content (coord_batch (CoordEntry.New (next_txn self.old) (now + timeout)))) disk.old disk.new }
-        ensures others { (other : FileId) → (R.mine (self.old).content.key other → ⊥) → D.seen disk.new other ≡ D.seen disk.old other }
-        ensures cause { CountsFaults (self.old).content.key.part (D.faults disk.old) (D.faults disk.new) (D.part_faults disk.old) (D.part_faults disk.new) (result ≡ Err CoordError.Fault) }
+        ensures images { After D.Disk (Appends R.mine R.stands (self.old).content (coord_batch (CoordEntry.New (next_txn self.old) (now + timeout)))) disk.old disk.new }
+        ensures others { ChangesOnly (R.mine (self.old).content.key) (D.seen disk.old) (D.seen disk.new) }
+        ensures cause { FaultsIn D.Disk (self.old).content.key.part disk.old disk.new (result ≡ Err CoordError.Fault) }
     {
         let _ = &self.table;
         if let Some(refusal) = self.begin_refusal(timeout) {
@@ -121,9 +122,9 @@ impl<R: RecordLog> Coordinator<R> {
         ensures unwritten { IfErr result (λ e. (e ≡ CoordError.Fault → ⊥) → disk.new ≡ disk.old) }
         ensures tied { IsFrontOf self.old → IsFrontOf self.new }
         ensures backed { Backed R.stands (D.image disk.new) (self.new).content }
-        ensures images { Since D.moment D.image D.left_since (Appends R.mine R.stands (self.old).content (coord_batch (CoordEntry.AddPart txn part))) disk.old disk.new }
-        ensures others { (other : FileId) → (R.mine (self.old).content.key other → ⊥) → D.seen disk.new other ≡ D.seen disk.old other }
-        ensures cause { CountsFaults (self.old).content.key.part (D.faults disk.old) (D.faults disk.new) (D.part_faults disk.old) (D.part_faults disk.new) (result ≡ Err CoordError.Fault) }
+        ensures images { After D.Disk (Appends R.mine R.stands (self.old).content (coord_batch (CoordEntry.AddPart txn part))) disk.old disk.new }
+        ensures others { ChangesOnly (R.mine (self.old).content.key) (D.seen disk.old) (D.seen disk.new) }
+        ensures cause { FaultsIn D.Disk (self.old).content.key.part disk.old disk.new (result ≡ Err CoordError.Fault) }
     {
         if let Some(refusal) = self.add_refusal(txn, part) {
             return Err(refusal);
@@ -153,9 +154,9 @@ impl<R: RecordLog> Coordinator<R> {
         ensures unwritten { IfErr result (λ e. (e ≡ CoordError.Fault → ⊥) → disk.new ≡ disk.old) }
         ensures tied { IsFrontOf self.old → IsFrontOf self.new }
         ensures backed { Backed R.stands (D.image disk.new) (self.new).content }
-        ensures images { Since D.moment D.image D.left_since (Appends R.mine R.stands (self.old).content (coord_batch (decision_entry txn decision))) disk.old disk.new }
-        ensures others { (other : FileId) → (R.mine (self.old).content.key other → ⊥) → D.seen disk.new other ≡ D.seen disk.old other }
-        ensures cause { CountsFaults (self.old).content.key.part (D.faults disk.old) (D.faults disk.new) (D.part_faults disk.old) (D.part_faults disk.new) (result ≡ Err CoordError.Fault) }
+        ensures images { After D.Disk (Appends R.mine R.stands (self.old).content (coord_batch (decision_entry txn decision))) disk.old disk.new }
+        ensures others { ChangesOnly (R.mine (self.old).content.key) (D.seen disk.old) (D.seen disk.new) }
+        ensures cause { FaultsIn D.Disk (self.old).content.key.part disk.old disk.new (result ≡ Err CoordError.Fault) }
     {
         if let Some(refusal) = self.decide_refusal(txn, decision) {
             return Err(refusal);
@@ -192,9 +193,9 @@ impl<R: RecordLog> Coordinator<R> {
         ensures fault { OnErr result (self.new ≡ fenced self.old (closing_of_view self.old txn)) }
         ensures tied { IsFrontOf self.old → IsFrontOf self.new }
         ensures backed { Backed R.stands (D.image disk.new) (self.new).content }
-        ensures images { Since D.moment D.image D.left_since (Appends R.mine R.stands (self.old).content (coord_batch (closing_of_view self.old txn))) disk.old disk.new }
-        ensures others { (other : FileId) → (R.mine (self.old).content.key other → ⊥) → D.seen disk.new other ≡ D.seen disk.old other }
-        ensures cause { HasPartCause (self.old).content.key.part (D.faults disk.old) (D.faults disk.new) (D.part_faults disk.old) (D.part_faults disk.new) result }
+        ensures images { After D.Disk (Appends R.mine R.stands (self.old).content (coord_batch (closing_of_view self.old txn))) disk.old disk.new }
+        ensures others { ChangesOnly (R.mine (self.old).content.key) (D.seen disk.old) (D.seen disk.new) }
+        ensures cause { FailsIn D.Disk (self.old).content.key.part disk.old disk.new result }
     {
         let entry = self.close_of(txn);
         self.reserved = false;

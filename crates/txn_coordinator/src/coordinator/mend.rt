@@ -2,7 +2,8 @@
 ghost use Rattle.std.specs.Prelude.{◌≡◌, ◌≤◌, ◌<◌, ◌+◌, ℕ, length, Err, IsErr, IsTrue, IsOk, IfOk, IfErr, OnOk, OnErr, if◌then◌else◌};
 ghost use Rattle.txn_base.specs.declared.file_id.FileId.{FileId};
 ghost use Rattle.txn_base.specs.Content.{settled, looked_at, Backed, Settles};
-ghost use Rattle.txn_base.specs.Disk.{Since, CountsFaults};
+ghost use Rattle.txn_base.specs.Disk.{ChangesOnly};
+ghost use Rattle.txn_base.specs.Moves.{After, FaultsIn};
 ghost use Rattle.txn_coordinator.specs.Mending.{AreRecordsTo, AreReplayed, IsBadRecord, IsSettledFrom, Mends, Stays};
 ghost use Rattle.txn_model.specs.Coord.{CoordLawful};
 ghost use Rattle.txn_model.specs.Deadlines.{low_of};
@@ -25,9 +26,9 @@ fn settle_log<D: Disk, R: RecordLog>(log: &mut R, disk: &mut D) -> Result<(), Fa
     ensures found { D.tells → OnOk result (R.stands (R.content log.old).key (D.seen disk.old) (R.content log.new).batches) }
     ensures unfound { OnErr result ((R.content log.new).standing ≡ settled → ⊥) }
     ensures backed { Backed R.stands (D.image disk.new) (R.content log.new) }
-    ensures images { Since D.moment D.image D.left_since (Settles R.mine R.stands (R.content log.old)) disk.old disk.new }
-    ensures others { (other : FileId) → (R.mine (R.content log.old).key other → ⊥) → D.seen disk.new other ≡ D.seen disk.old other }
-    ensures cause { CountsFaults (R.content log.old).key.part (D.faults disk.old) (D.faults disk.new) (D.part_faults disk.old) (D.part_faults disk.new) (IsErr result) }
+    ensures images { After D.Disk (Settles R.mine R.stands (R.content log.old)) disk.old disk.new }
+    ensures others { ChangesOnly (R.mine (R.content log.old).key) (D.seen disk.old) (D.seen disk.new) }
+    ensures cause { FaultsIn D.Disk (R.content log.old).key.part disk.old disk.new (IsErr result) }
 {
     if log.is_settled() {
         return Ok(());
@@ -81,9 +82,9 @@ impl<R: RecordLog> Coordinator<R> {
         ensures replayed { D.tells → AreReplayed named (self.old).content (self.old).front → AreReplayed named (self.new).content (self.new).front }
         ensures lawful { CoordLawful named (coord_skeletons (self.old).front) → CoordLawful named (coord_skeletons (self.new).front) }
         ensures backed { Backed R.stands (D.image disk.new) (self.new).content }
-        ensures images { Since D.moment D.image D.left_since (Settles R.mine R.stands (self.old).content) disk.old disk.new }
-        ensures others { (other : FileId) → (R.mine (self.old).content.key other → ⊥) → D.seen disk.new other ≡ D.seen disk.old other }
-        ensures cause { CountsFaults (self.old).content.key.part (D.faults disk.old) (D.faults disk.new) (D.part_faults disk.old) (D.part_faults disk.new) (result ≡ Err MendError.Fault) }
+        ensures images { After D.Disk (Settles R.mine R.stands (self.old).content) disk.old disk.new }
+        ensures others { ChangesOnly (R.mine (self.old).content.key) (D.seen disk.old) (D.seen disk.new) }
+        ensures cause { FaultsIn D.Disk (self.old).content.key.part disk.old disk.new (result ≡ Err MendError.Fault) }
     {
         let before = self.log.len();
         if self.whole {

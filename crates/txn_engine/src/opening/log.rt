@@ -1,8 +1,9 @@
 //! The coordinator, opened and rebuilt.
 ghost use Rattle.std.specs.Prelude.{◌≡◌, ◌≤◌, ℕ, Err, IfOk, IsTrue, length};
 ghost use Rattle.txn_base.specs.Content.{Backed};
-ghost use Rattle.txn_base.specs.Disk.{Elsewhere, Since, Changes, CountsFaults};
+ghost use Rattle.txn_base.specs.Disk.{Elsewhere, Changes};
 ghost use Rattle.txn_base.specs.Limits.{InRange};
+ghost use Rattle.txn_base.specs.Moves.{After, FaultsIn};
 ghost use Rattle.txn_base.specs.declared.file_id.FileId.{FileId};
 ghost use Rattle.txn_ledger.specs.Found.{KeepsList, KeepsDamaged};
 ghost use Rattle.txn_ledger.specs.Ledger.{StandsIn};
@@ -35,9 +36,9 @@ pub fn open_coordinator<D: Disk, L: ledger::Ledger>(
     ensures told { D.tells → IfOk result (λ c. IsCoordinatorOf named c (D.seen disk.old (ledger_file 0))) }
     ensures damaged { (file : FileId) (entry : ℕ) → result ≡ Err (EngineError.Damaged file entry) → (file ≡ ledger_file 0) × (D.tells → IsDamagedLog named (D.seen disk.old (ledger_file 0)) entry) }
     ensures uncut { D.tells → KeepsDamaged (D.seen disk.old (ledger_file 0)) (D.seen disk.new (ledger_file 0)) }
-    ensures images { Since D.moment D.image D.left_since (Changes (ledger_file 0) KeepsList) disk.old disk.new }
+    ensures images { After D.Disk (Changes (ledger_file 0) KeepsList) disk.old disk.new }
     ensures others { Elsewhere (ledger_file 0) (D.seen disk.old) (D.seen disk.new) }
-    ensures cause { CountsFaults 0 (D.faults disk.old) (D.faults disk.new) (D.part_faults disk.old) (D.part_faults disk.new) (result ≡ Err EngineError.Fault) }
+    ensures cause { FaultsIn D.Disk 0 disk.old disk.new (result ≡ Err EngineError.Fault) }
 {
     let file = FileId { part: 0, row: 2 };
     let log = match Ledger::open_file(alloc, disk, file) {

@@ -1,8 +1,9 @@
 //! The topics, opened and rebuilt one after another.
 ghost use Rattle.std.specs.Prelude.{◌≡◌, ◌≤◌, ◌<◌, ℕ, Err, length, All, IfOk, IsTrue};
 ghost use Rattle.txn_base.specs.Content.{Backed};
-ghost use Rattle.txn_base.specs.Disk.{Elsewhere, Since, Changes, CountsFaults};
+ghost use Rattle.txn_base.specs.Disk.{Elsewhere, Changes};
 ghost use Rattle.txn_base.specs.Limits.{InRange};
+ghost use Rattle.txn_base.specs.Moves.{After, FaultsIn};
 ghost use Rattle.txn_base.specs.declared.file_id.FileId.{FileId};
 ghost use Rattle.txn_buffer.specs.View.{total_of};
 ghost use Rattle.txn_ledger.specs.Found.{KeepsList, KeepsDamaged};
@@ -12,7 +13,7 @@ ghost use Rattle.txn_model.specs.Topic.{TopicLawful};
 ghost use Rattle.txn_engine.specs.Files.{OnlyLedgers};
 ghost use Rattle.txn_engine.specs.Kept.{IsTopic, AreTopics};
 ghost use Rattle.txn_engine.specs.Opening.{IsTopicOf, IsDamagedTopic, IsFirstDamagedTopic, KeepsLists, KeepsAllDamaged};
-ghost use Rattle.txn_engine.specs.Told.{CountsWithin};
+ghost use Rattle.txn_engine.specs.Told.{FaultsWithin};
 
 use crate::opening::EngineError;
 use crate::opening::unopened::{unmended, unopened};
@@ -37,10 +38,10 @@ pub fn open_topics<D: Disk, L: ledger::Ledger>(
     ensures told { D.tells → IfOk result (λ topics. All (λ t. IsTopicOf t (D.seen disk.old t.content.key)) topics.items) }
     ensures damaged { (file : FileId) (entry : ℕ) → result ≡ Err (EngineError.Damaged file entry) → IsFirstDamagedTopic named D.tells (D.seen disk.old) file entry }
     ensures uncut { D.tells → KeepsAllDamaged (D.seen disk.old) (D.seen disk.new) }
-    ensures images { Since D.moment D.image D.left_since KeepsLists disk.old disk.new }
-    ensures elsewhere { Since D.moment D.image D.left_since (OnlyLedgers named) disk.old disk.new }
+    ensures images { After D.Disk KeepsLists disk.old disk.new }
+    ensures elsewhere { After D.Disk (OnlyLedgers named) disk.old disk.new }
     ensures others { OnlyLedgers named (D.seen disk.old) (D.seen disk.new) }
-    ensures cause { CountsWithin named (D.faults disk.old) (D.faults disk.new) (D.part_faults disk.old) (D.part_faults disk.new) (result ≡ Err EngineError.Fault) }
+    ensures cause { FaultsWithin D.Disk named disk.old disk.new (result ≡ Err EngineError.Fault) }
 {
     let Ok(mut topics) = Vec::with_capacity(alloc, named as usize) else {
         return Err(EngineError::NoMemory);
@@ -66,9 +67,9 @@ fn open_topic<D: Disk, L: ledger::Ledger>(
     ensures told { D.tells → IfOk result (λ t. IsTopicOf t (D.seen disk.old (ledger_file part))) }
     ensures damaged { (file : FileId) (entry : ℕ) → result ≡ Err (EngineError.Damaged file entry) → (file ≡ ledger_file part) × (D.tells → IsDamagedTopic (D.seen disk.old (ledger_file part)) entry) }
     ensures uncut { D.tells → KeepsDamaged (D.seen disk.old (ledger_file part)) (D.seen disk.new (ledger_file part)) }
-    ensures images { Since D.moment D.image D.left_since (Changes (ledger_file part) KeepsList) disk.old disk.new }
+    ensures images { After D.Disk (Changes (ledger_file part) KeepsList) disk.old disk.new }
     ensures others { Elsewhere (ledger_file part) (D.seen disk.old) (D.seen disk.new) }
-    ensures cause { CountsFaults part (D.faults disk.old) (D.faults disk.new) (D.part_faults disk.old) (D.part_faults disk.new) (result ≡ Err EngineError.Fault) }
+    ensures cause { FaultsIn D.Disk part disk.old disk.new (result ≡ Err EngineError.Fault) }
 {
     let file = FileId { part, row: 2 };
     let log = match Ledger::open_file(alloc, disk, file) {

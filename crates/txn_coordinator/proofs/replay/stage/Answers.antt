@@ -40,7 +40,7 @@ loop-place-preserved g c =
           (replayed_next c.args.named (g.R.RecordLog.content c.args.log.now) c.args.table.now.front c.loop-place.staged.items c.loop-place.place lt count (c.loop-place.invariant.replayed told was) c.in_ok-entry.entry (c.in_ok-entry.ensures.read told) allowed);
       counted = omega (arith, c.loop-place.invariant.counted, c.read_entry.ensures.counted);
       seen = c.read_entry.ensures.seen ∙ c.loop-place.invariant.seen;
-      images = same_then g.D.Disk.moment g.D.Disk.image g.D.Disk.left_since _ _ _ c.loop-place.invariant.images c.read_entry.ensures.images;
-      backed = backed_same g.D.Disk.moment g.D.Disk.image g.D.Disk.left_since g.R.RecordLog.stands (g.R.RecordLog.content c.args.log.now) _ _ c.read_entry.ensures.images c.loop-place.invariant.backed;
+      images = same_then g.D.Disk _ _ _ c.loop-place.invariant.images c.read_entry.ensures.images;
+      backed = backed_same g.D.Disk g.R.RecordLog.stands (g.R.RecordLog.content c.args.log.now) _ _ c.read_entry.ensures.images c.loop-place.invariant.backed;
       cause = faults_then _ _ _ _ _ _ _ _ c.loop-place.invariant.cause (faults_quiet _ _ _ _ _ _ c.read_entry.ensures.cause);
     }

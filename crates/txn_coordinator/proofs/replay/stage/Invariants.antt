@@ -1,7 +1,8 @@
 use Rattle.std.proofs.Common.{◌≡◌, ◌+◌, ◌≤◌, ◌++◌, length, take, vec_capacity}
+use Rattle.txn_base.specs.Moves.{After}
 use Rattle.txn_base.specs.Content.{Backed}
 use Rattle.txn_base.specs.Decoded.{coord_entries}
-use Rattle.txn_base.specs.Disk.{Since, Same, CountsFaults}
+use Rattle.txn_base.specs.Disk.{Same, CountsFaults}
 use Rattle.txn_coordinator.specs.Mending.{AreRecordsFrom, AreReplayed}
 use Rattle.txn_model.specs.Coord.{CoordLawful}
 use Rattle.txn_model.specs.Skeletons.{coord_skeletons}
@@ -19,7 +20,7 @@ invariant-loop-place g l = record {
   replayed : g.D.Disk.tells → AreReplayed l.named (g.R.RecordLog.content l.log) l.table.front → AreReplayed l.named (g.R.RecordLog.content l.log) (l.table.front ++ l.staged.items);
   counted : l.steps + l.at ≡ l.initial.steps + l.place;
   seen : g.D.Disk.seen l.disk ≡ g.D.Disk.seen l.initial.disk;
-  images : Since g.D.Disk.moment g.D.Disk.image g.D.Disk.left_since Same l.initial.disk l.disk;
+  images : After g.D.Disk Same l.initial.disk l.disk;
   backed : Backed g.R.RecordLog.stands (g.D.Disk.image l.disk) (g.R.RecordLog.content l.log);
   cause : CountsFaults (g.R.RecordLog.content l.log).key.part (g.D.Disk.faults l.initial.disk) (g.D.Disk.faults l.disk) (g.D.Disk.part_faults l.initial.disk) (g.D.Disk.part_faults l.disk) ⊥;
 }

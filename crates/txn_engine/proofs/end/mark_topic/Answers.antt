@@ -6,4 +6,4 @@ use Rattle.txn_engine.proofs.end.mark_topic.Goals as goal
 
 pub returns-then-is_some-clause-images : goal.returns-then-is_some-clause-images
 returns-then-is_some-clause-images g c =
-    appends_nothing g.D.Disk.moment g.D.Disk.image g.D.Disk.left_since c.args.topic.now.content (batch_of (marker_entry c.args.txn c.args.decision ∷ [])) c.args.disk.now c.requires.settled c.requires.backed
+    appends_nothing g.D.Disk c.args.topic.now.content (batch_of (marker_entry c.args.txn c.args.decision ∷ [])) c.args.disk.now c.requires.settled c.requires.backed

@@ -34,7 +34,7 @@ loop-window-preserved g c =
           scanned_frame x found.carrier.content.batches found.end c.in-Body.len c.slice.result.now (before.told told) head body_is before.scanned.tied.ends c.slice.ensures.len batch c.in_ok-add_frame-in-Body.ensures.filled c.add_frame.new.self.end c.in_ok-add_frame-in-Body.ensures.end
           ∙ ap (λ (s : LedgerContent). frames s.batches ++ drop c.add_frame.new.self.end x) (sym pushed);
       seen = c.fill.ensures.seen ∙ c.read_head.ensures.seen ∙ before.seen;
-      images = same_on _ _ _ c.args.file 0 _ _ _ _ (same_on _ _ _ c.args.file 0 _ _ _ _ before.images c.read_head.ensures.images) c.fill.ensures.images;
+      images = same_on g.D.Disk c.args.file 0 _ _ _ _ (same_on g.D.Disk c.args.file 0 _ _ _ _ before.images c.read_head.ensures.images) c.fill.ensures.images;
       cause = search rules;
     }
 

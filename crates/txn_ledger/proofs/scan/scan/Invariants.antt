@@ -1,5 +1,6 @@
 use Rattle.std.proofs.Common.{◌≡◌, ◌-◌, ◌≤◌, ◌++◌, drop}
-use Rattle.txn_base.specs.Disk.{Since, Same, CountsFaults}
+use Rattle.txn_base.specs.Moves.{After}
+use Rattle.txn_base.specs.Disk.{Same, CountsFaults}
 use Rattle.txn_base.specs.Frames.{frames}
 use Rattle.txn_ledger.specs.Found.{IsPiece}
 use Rattle.txn_ledger.specs.Tied.{IsScanned}
@@ -13,7 +14,7 @@ invariant-loop-window g l = record {
   piece : IsPiece g.D.Disk.tells (g.D.Disk.seen l.fn.disk l.file) l.size l.window.at l.window.bytes.items;
   told : g.D.Disk.tells → g.D.Disk.seen l.fn.disk l.file ≡ frames l.found.carrier.content.batches ++ drop l.found.end (g.D.Disk.seen l.fn.disk l.file);
   seen : g.D.Disk.seen l.disk ≡ g.D.Disk.seen l.fn.disk;
-  images : Since g.D.Disk.moment g.D.Disk.image g.D.Disk.left_since Same l.fn.disk l.disk;
+  images : After g.D.Disk Same l.fn.disk l.disk;
   cause : CountsFaults l.file.part (g.D.Disk.faults l.fn.disk) (g.D.Disk.faults l.disk) (g.D.Disk.part_faults l.fn.disk) (g.D.Disk.part_faults l.disk) ⊥;
 }
 

@@ -7,23 +7,23 @@ write_frame-requires-clause-closed g c = closed c.args.carrier.now.content c.req
 
 pub returns-in_err-write_frame-clause-images : goal.returns-in_err-write_frame-clause-images
 returns-in_err-write_frame-clause-images g c =
-    appends c.args.carrier.now.content c.requires.settled c.args.end c.requires.ends c.args.file c.requires.file _ _ _ _ c.requires.batch _ c.requires.tail _ _ c.requires.backed c.write_frame.ensures.images
+    appends c.args.carrier.now.content c.requires.settled c.args.end c.requires.ends c.args.file c.requires.file g.D.Disk _ c.requires.batch _ c.requires.tail _ _ c.requires.backed c.write_frame.ensures.images
 
 pub returns-clause-images : goal.returns-clause-images
 returns-clause-images g c =
-    appends c.args.carrier.now.content c.requires.settled c.args.end c.requires.ends c.args.file c.requires.file _ _ _ _ c.requires.batch _ c.requires.tail _ _ c.requires.backed c.write_frame.ensures.images
+    appends c.args.carrier.now.content c.requires.settled c.args.end c.requires.ends c.args.file c.requires.file g.D.Disk _ c.requires.batch _ c.requires.tail _ _ c.requires.backed c.write_frame.ensures.images
 
 pub returns-in_err-write_frame-clause-err : goal.returns-in_err-write_frame-clause-err
 returns-in_err-write_frame-clause-err g c =
     let doubt =
-    in_doubt c.args.carrier.now.content c.requires.settled c.args.end c.requires.ends c.args.file c.requires.file _ _ _ _ c.requires.batch _ c.requires.tail _ _ c.requires.backed c.write_frame.ensures.images in
+    in_doubt c.args.carrier.now.content c.requires.settled c.args.end c.requires.ends c.args.file c.requires.file g.D.Disk _ c.requires.batch _ c.requires.tail _ _ c.requires.backed c.write_frame.ensures.images in
     search rules
 
 pub returns-clause-ok : goal.returns-clause-ok
 returns-clause-ok g c =
-    stands c.args.carrier.now.content c.requires.settled c.args.end c.requires.ends c.args.file c.requires.file _ _ _ _ c.requires.batch _ c.requires.tail _ _ c.requires.backed c.write_frame.ensures.images c.in_ok-write_frame.ensures.opened
+    stands c.args.carrier.now.content c.requires.settled c.args.end c.requires.ends c.args.file c.requires.file g.D.Disk _ c.requires.batch _ c.requires.tail _ _ c.requires.backed c.write_frame.ensures.images c.in_ok-write_frame.ensures.opened
 
 pub returns-clause-exact : goal.returns-clause-exact
 returns-clause-exact g c = λ told.
     let at = g.met.D.Disk.seen_is_image c.write_frame.new.disk told in
-    exact c.args.carrier.now.content c.requires.settled c.args.end c.requires.ends c.args.file c.requires.file _ _ _ _ c.requires.batch _ c.requires.tail _ _ c.requires.backed c.write_frame.ensures.images _ at (c.in_ok-write_frame.ensures.opened _ at)
+    exact c.args.carrier.now.content c.requires.settled c.args.end c.requires.ends c.args.file c.requires.file g.D.Disk _ c.requires.batch _ c.requires.tail _ _ c.requires.backed c.write_frame.ensures.images _ at (c.in_ok-write_frame.ensures.opened _ at)

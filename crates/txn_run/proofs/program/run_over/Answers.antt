@@ -11,8 +11,8 @@ use Rattle.txn_run.proofs.program.run_over.Goals as goal
 
 pub returns-in-Ok-open_disk-clause-images : goal.returns-in-Ok-open_disk-clause-images
 returns-in-Ok-open_disk-clause-images g c =
-    running_above g.D.Disk.moment g.D.Disk.image g.D.Disk.left_since c.args.names.items _ g.D.Disk.tells g.met.D.Disk.image_is_told c.in-Ok-open_disk.ensures.tied c.args.disk.now c.open_disk.new.disk c.run_in.new.disk
-    c.in-Ok-open_disk.engine.names c.in-Ok-open_disk.ensures.opened.0 c.in-Ok-open_disk.ensures.images c.run_in.ensures.images
+    running_above g.D.Disk c.args.names.items _ g.D.Disk.tells g.met.D.Disk.image_is_told c.in-Ok-open_disk.ensures.tied c.args.disk.now c.open_disk.new.disk c.run_in.new.disk
+    c.in-Ok-open_disk.engine.names c.in-Ok-open_disk.ensures.opened.0 c.in-Ok-open_disk.ensures.images c.run_in.ensures.serves.images
 
 pub returns-in-Ok-open_disk-clause-answers : goal.returns-in-Ok-open_disk-clause-answers
 returns-in-Ok-open_disk-clause-answers g c told sound =
@@ -38,10 +38,10 @@ returns-in-Ok-open_disk-clause-answers g c told sound =
       told = ended;
       counted = counted_since (g.D.Disk.faults c.args.disk.now) c.run_in.result c.args.limits.now first (g.O.Sink.held c.args.sink.now) ran.0 last (g.O.Sink.held c.run_in.new.sink) (g.I.Source.left c.run_in.new.source) ended c.in-Ok-open_disk.ensures.cause.later;
       leaves = λ all image at.
-          let since = running_above g.D.Disk.moment g.D.Disk.image g.D.Disk.left_since c.args.names.items _ g.D.Disk.tells g.met.D.Disk.image_is_told c.in-Ok-open_disk.ensures.tied c.args.disk.now c.open_disk.new.disk c.run_in.new.disk
-          c.in-Ok-open_disk.engine.names opened.0 c.in-Ok-open_disk.ensures.images c.run_in.ensures.images in
-          let above = image_above g.D.Disk.moment g.D.Disk.image g.D.Disk.left_since c.args.names.items c.args.disk.now c.run_in.new.disk since all image at in
-          leaves_here c.args.names.items c.run_in.new.engine c.run_in.ensures.engine (c.run_in.ensures.names ∙ opened.0) (g.D.Disk.image c.run_in.new.disk) c.run_in.ensures.backed image at above.0 above.1;
+          let since = running_above g.D.Disk c.args.names.items _ g.D.Disk.tells g.met.D.Disk.image_is_told c.in-Ok-open_disk.ensures.tied c.args.disk.now c.open_disk.new.disk c.run_in.new.disk
+          c.in-Ok-open_disk.engine.names opened.0 c.in-Ok-open_disk.ensures.images c.run_in.ensures.serves.images in
+          let above = image_above g.D.Disk c.args.names.items c.args.disk.now c.run_in.new.disk since all image at in
+          leaves_here c.args.names.items c.run_in.new.engine c.run_in.ensures.serves.engine (c.run_in.ensures.serves.names ∙ opened.0) (g.D.Disk.image c.run_in.new.disk) c.run_in.ensures.serves.backed image at above.0 above.1;
     })
 
 pub returns-in-Ok-open_disk-clause-undamaged : goal.returns-in-Ok-open_disk-clause-undamaged
@@ -52,15 +52,15 @@ returns-in-Ok-open_disk-clause-stopped g c is = inr (c.run_in.ensures.stopped is
 
 pub returns-in-Ok-open_disk-clause-disk : goal.returns-in-Ok-open_disk-clause-disk
 returns-in-Ok-open_disk-clause-disk g c =
-    counts_then c.args.names.items c.in-Ok-open_disk.engine.names _ _ _ (g.D.Disk.part_faults c.args.disk.now) (g.D.Disk.part_faults c.open_disk.new.disk) (g.D.Disk.part_faults c.run_in.new.disk) _ _ c.in-Ok-open_disk.ensures.opened.0 c.in-Ok-open_disk.ensures.cause c.run_in.ensures.cause
+    counts_then c.args.names.items c.in-Ok-open_disk.engine.names _ _ _ (g.D.Disk.part_faults c.args.disk.now) (g.D.Disk.part_faults c.open_disk.new.disk) (g.D.Disk.part_faults c.run_in.new.disk) _ _ c.in-Ok-open_disk.ensures.opened.0 c.in-Ok-open_disk.ensures.cause c.run_in.ensures.serves.cause
 
 pub returns-in-Ok-open_disk-clause-elsewhere : goal.returns-in-Ok-open_disk-clause-elsewhere
 returns-in-Ok-open_disk-clause-elsewhere g c =
-    leaves_then g.D.Disk.moment g.D.Disk.image g.D.Disk.left_since g.D.Disk.seen c.args.names.items c.in-Ok-open_disk.engine.names c.args.disk.now c.open_disk.new.disk c.run_in.new.disk c.in-Ok-open_disk.ensures.opened.0
-    (record { now = c.in-Ok-open_disk.ensures.others; since = c.in-Ok-open_disk.ensures.elsewhere }) c.run_in.ensures.elsewhere
+    leaves_then g.D.Disk c.args.names.items c.in-Ok-open_disk.engine.names c.args.disk.now c.open_disk.new.disk c.run_in.new.disk c.in-Ok-open_disk.ensures.opened.0
+    (record { now = c.in-Ok-open_disk.ensures.others; since = c.in-Ok-open_disk.ensures.elsewhere }) c.run_in.ensures.serves.elsewhere
 
 pub returns-in-Err-clause-images : goal.returns-in-Err-clause-images
-returns-in-Err-clause-images g c = opening_above g.D.Disk.moment g.D.Disk.image g.D.Disk.left_since c.args.names.items c.args.disk.now c.open_disk.new.disk c.in-Err.ensures.images
+returns-in-Err-clause-images g c = opening_above g.D.Disk c.args.names.items c.args.disk.now c.open_disk.new.disk c.in-Err.ensures.images
 
 pub returns-in-Err-clause-damaged : goal.returns-in-Err-clause-damaged
 returns-in-Err-clause-damaged g c file entry is = c.in-Err.ensures.damaged file entry (ap Err (damage_of c.in-Err.error file entry (sym c.unopened.ensures ∙ is)))

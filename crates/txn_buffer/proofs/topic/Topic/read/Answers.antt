@@ -21,7 +21,7 @@ loop-place-init g c =
       left = subst (λ (s : Slice). 1 ≤ s.left) (sym c.new-slice.ensures) (omega (arith, c.requires.max, c.self.invariant.in_range.read_messages.least));
       steps = omega arith;
       none = λ h. ap (λ (s : Slice). s.messages) c.new-slice.ensures;
-      reads = reads_none g.D.Disk.moment g.D.Disk.image g.D.Disk.left_since g.D.Disk.seen g.D.Disk.faults g.D.Disk.part_faults v.content.key.part c.args.disk.now;
+      reads = reads_none g.D.Disk v.content.key.part c.args.disk.now;
       slice = λ tells tied h.
           subst (λ (s : Slice). IsSoFar v.limits v.front c.args.first c.args.max s.bytes s.spent s.left s.messages c.args.first) (sym c.new-slice.ensures)
           (subst (λ (l : Limits). IsSoFar v.limits v.front c.args.first c.args.max l.read_bytes 0 (min c.args.max l.read_messages) [] c.args.first) (sym limits)
@@ -63,8 +63,8 @@ loop-place-preserved g c =
       steps = omega (arith, k.steps, k.from, c.in_ok-found.ensures.counted);
       none = λ h. absurd (omega (arith, h, k.from, c.loop-place-test.true));
       reads =
-          reads_on g.D.Disk.moment g.D.Disk.image g.D.Disk.left_since g.D.Disk.seen g.D.Disk.faults g.D.Disk.part_faults v.content.key.part ⊥ c.args.disk.now c.loop-place.disk c.message_at.new.disk k.reads
-          (reads_as g.D.Disk.moment g.D.Disk.image g.D.Disk.left_since g.D.Disk.seen g.D.Disk.faults g.D.Disk.part_faults v.content.key.part _ ⊥ c.loop-place.disk c.message_at.new.disk (λ none. absurd none) c.in_ok-found.ensures.reads);
+          reads_on g.D.Disk v.content.key.part ⊥ c.args.disk.now c.loop-place.disk c.message_at.new.disk k.reads
+          (reads_as g.D.Disk v.content.key.part _ ⊥ c.loop-place.disk c.message_at.new.disk (λ none. absurd none) c.in_ok-found.ensures.reads);
       slice = λ tells tied h.
           subst (λ (b : ℕ). IsSoFar v.limits v.front c.args.first c.args.max b c.give.new.self.spent c.give.new.self.left c.give.new.self.messages (c.loop-place.place + 1)) (sym c.in_ok-give.ensures.bytes)
           (so_far_goes_on v.limits v.front c.args.first c.args.max s.bytes s.spent s.left s.messages c.loop-place.place (k.slice tells tied h)

@@ -12,7 +12,7 @@ invariant-loop-place g l =
       left : 1 ≤ l.slice.left;
       steps : l.steps ≡ l.fn.steps + (l.place - l.fn.first);
       none : l.end ≤ l.fn.first → l.slice.messages ≡ [];
-      reads : OnlyReads g.D.Disk.moment g.D.Disk.image g.D.Disk.left_since g.D.Disk.seen g.D.Disk.faults g.D.Disk.part_faults l.self.content.key.part ⊥ l.fn.disk l.disk;
+      reads : OnlyReads g.D.Disk l.self.content.key.part ⊥ l.fn.disk l.disk;
       slice : g.D.Disk.tells → IsFrontOf l.self → l.fn.first ≤ l.end → IsSoFar l.self.limits l.self.front l.fn.first l.fn.max l.slice.bytes l.slice.spent l.slice.left l.slice.messages l.place;
     }
 

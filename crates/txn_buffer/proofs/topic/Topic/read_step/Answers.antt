@@ -28,8 +28,8 @@ returns-in_err-record-clause-first_bad g c = λ place same tells tied.
 
 pub returns-then-is_err-clause-reads : goal.returns-then-is_err-clause-reads
 returns-then-is_err-clause-reads g c =
-    reads_on g.D.Disk.moment g.D.Disk.image g.D.Disk.left_since g.D.Disk.seen g.D.Disk.faults g.D.Disk.part_faults c.args.self.now.content.key.part _ c.args.disk.now c.loop-place.disk c.next_record.new.disk c.loop-place.invariant.reads
-    (reads_as g.D.Disk.moment g.D.Disk.image g.D.Disk.left_since g.D.Disk.seen g.D.Disk.faults g.D.Disk.part_faults c.args.self.now.content.key.part _ _ c.loop-place.disk c.next_record.new.disk (λ h. cc) c.in_ok-record.ensures.reads)
+    reads_on g.D.Disk c.args.self.now.content.key.part _ c.args.disk.now c.loop-place.disk c.next_record.new.disk c.loop-place.invariant.reads
+    (reads_as g.D.Disk c.args.self.now.content.key.part _ _ c.loop-place.disk c.next_record.new.disk (λ h. cc) c.in_ok-record.ensures.reads)
 
 pub loop-place-preserved : goal.loop-place-preserved
 loop-place-preserved g c =
@@ -50,6 +50,6 @@ loop-place-preserved g c =
           (tied_one v (v.front ++ items) e (omega (arith, at, total, was, c.loop-place-test.true, c.min.ensures)) (subst (λ n. IsEntryAt v.content.batches n e) (sym at) (c.in_ok-record.ensures.told tells)) (k.tied tells tied));
       steps = omega (arith, k.steps, longer, c.in_ok-record.ensures.counted);
       reads =
-          reads_on g.D.Disk.moment g.D.Disk.image g.D.Disk.left_since g.D.Disk.seen g.D.Disk.faults g.D.Disk.part_faults v.content.key.part ⊥ c.args.disk.now c.loop-place.disk c.next_record.new.disk k.reads
-          (reads_as g.D.Disk.moment g.D.Disk.image g.D.Disk.left_since g.D.Disk.seen g.D.Disk.faults g.D.Disk.part_faults v.content.key.part _ ⊥ c.loop-place.disk c.next_record.new.disk (λ none. absurd none) c.in_ok-record.ensures.reads);
+          reads_on g.D.Disk v.content.key.part ⊥ c.args.disk.now c.loop-place.disk c.next_record.new.disk k.reads
+          (reads_as g.D.Disk v.content.key.part _ ⊥ c.loop-place.disk c.next_record.new.disk (λ none. absurd none) c.in_ok-record.ensures.reads);
     }

@@ -12,5 +12,5 @@ invariant-loop-place g l =
       lawful : TopicLawful (l.self.front ++ l.staged.items);
       tied : g.D.Disk.tells → IsFrontOf l.self → IsFrontOf (with_front l.self (l.self.front ++ l.staged.items));
       steps : l.steps ≡ l.fn.steps + length l.staged.items;
-      reads : OnlyReads g.D.Disk.moment g.D.Disk.image g.D.Disk.left_since g.D.Disk.seen g.D.Disk.faults g.D.Disk.part_faults l.self.content.key.part ⊥ l.fn.disk l.disk;
+      reads : OnlyReads g.D.Disk l.self.content.key.part ⊥ l.fn.disk l.disk;
     }

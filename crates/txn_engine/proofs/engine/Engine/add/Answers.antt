@@ -74,9 +74,9 @@ returns-clause-tellable g c = subst IsTellable (sym c.added_reply.ensures) (adde
 pub returns-clause-goes : goal.returns-clause-goes
 returns-clause-goes g c =
     let within = subst (λ (ns : List (List ℕ)). c.in-Some.number ≤ length ns) c.deref.ensures.value c.in-Some.ensures.within.1 in
-    goes_at g.D.Disk.moment g.D.Disk.image g.D.Disk.left_since g.D.Disk.seen g.D.Disk.faults g.D.Disk.part_faults _ _ _ _ c.args.disk.now c.add-added.new.disk c.self.view_is
-    (goes_for g.D.Disk.moment g.D.Disk.image g.D.Disk.left_since g.D.Disk.seen g.D.Disk.faults g.D.Disk.part_faults _ _ _ _ c.args.disk.now c.add-added.new.disk (sym c.added_reply.ensures)
-    (added_goes g.D.Disk.moment g.D.Disk.image g.D.Disk.left_since g.D.Disk.seen g.D.Disk.faults g.D.Disk.part_faults _ c.self.invariant (subst IsWhole (sym c.self.view_is) c.requires.whole) c.args.disk.now c.add-added.new.disk
+    goes_at g.D.Disk _ _ _ _ c.args.disk.now c.add-added.new.disk c.self.view_is
+    (goes_for g.D.Disk _ _ _ _ c.args.disk.now c.add-added.new.disk (sym c.added_reply.ensures)
+    (added_goes g.D.Disk _ c.self.invariant (subst IsWhole (sym c.self.view_is) c.requires.whole) c.args.disk.now c.add-added.new.disk
     (subst (IsBacked (g.D.Disk.image c.args.disk.now)) (sym c.self.view_is) c.requires.backed) c.args.txn c.args.part.now c.in-Some.number
     (ap (λ (ns : List (List ℕ)). part_of ns c.args.part.now) (sym c.deref.ensures.value) ∙ sym c.part_of.ensures.value ∙ c.in-Some.is) (grind (arith, nat_tests, c.if-txn-ne0.false))
     (no_fault_add (status_of (coord_skeletons c.self.inside.coordinator.front) c.args.txn) (has_part c.self.inside.coordinator c.args.txn c.in-Some.number) (full_log c.self.inside.coordinator.limits (length_of c.self.inside.coordinator) 1))

@@ -28,13 +28,13 @@ returns-then-is_bad_timeout-clause-told g c = λ tells tied.
 
 pub returns-then-is_bad_timeout-clause-goes : goal.returns-then-is_bad_timeout-clause-goes
 returns-then-is_bad_timeout-clause-goes g c =
-    goes_at g.D.Disk.moment g.D.Disk.image g.D.Disk.left_since g.D.Disk.seen g.D.Disk.faults g.D.Disk.part_faults _ _ _ _ c.args.disk.now c.args.disk.now c.self.view_is
-    (goes_still g.D.Disk.moment g.D.Disk.image g.D.Disk.left_since g.D.Disk.seen g.D.Disk.faults g.D.Disk.part_faults _ (λ h. cc) _ _ c.args.disk.now (subst IsWhole (sym c.self.view_is) c.requires.whole) (subst (IsBacked (g.D.Disk.image c.args.disk.now)) (sym c.self.view_is) c.requires.backed) refl refl refl)
+    goes_at g.D.Disk _ _ _ _ c.args.disk.now c.args.disk.now c.self.view_is
+    (goes_still g.D.Disk _ (λ h. cc) _ _ c.args.disk.now (subst IsWhole (sym c.self.view_is) c.requires.whole) (subst (IsBacked (g.D.Disk.image c.args.disk.now)) (sym c.self.view_is) c.requires.backed) refl refl refl)
 
 pub returns-in_default-clause-goes : goal.returns-in_default-clause-goes
 returns-in_default-clause-goes g c =
-    goes_at g.D.Disk.moment g.D.Disk.image g.D.Disk.left_since g.D.Disk.seen g.D.Disk.faults g.D.Disk.part_faults _ _ _ _ c.args.disk.now c.args.disk.now c.self.view_is
-    (goes_still g.D.Disk.moment g.D.Disk.image g.D.Disk.left_since g.D.Disk.seen g.D.Disk.faults g.D.Disk.part_faults _ (λ h. cc) _ _ c.args.disk.now (subst IsWhole (sym c.self.view_is) c.requires.whole) (subst (IsBacked (g.D.Disk.image c.args.disk.now)) (sym c.self.view_is) c.requires.backed) refl refl refl)
+    goes_at g.D.Disk _ _ _ _ c.args.disk.now c.args.disk.now c.self.view_is
+    (goes_still g.D.Disk _ (λ h. cc) _ _ c.args.disk.now (subst IsWhole (sym c.self.view_is) c.requires.whole) (subst (IsBacked (g.D.Disk.image c.args.disk.now)) (sym c.self.view_is) c.requires.backed) refl refl refl)
 
 pub invariant_of-self-2 : goal.invariant_of-self-2
 invariant_of-self-2 g c =
@@ -63,10 +63,10 @@ returns-clause-goes g c =
     let is = moved_is _ c.max-self-inside.result c.args.now c.self.invariant (latest_is _ _ _ _ c.min.ensures c.max-self-inside.ensures) in
     let whole = subst IsWhole (sym c.self.view_is) c.requires.whole in
     let backed = subst (IsBacked (g.D.Disk.image c.args.disk.now)) (sym c.self.view_is) c.requires.backed in
-    goes_at g.D.Disk.moment g.D.Disk.image g.D.Disk.left_since g.D.Disk.seen g.D.Disk.faults g.D.Disk.part_faults _ _ _ _ c.args.disk.now c.begin-begun.new.disk c.self.view_is
-    (goes_for g.D.Disk.moment g.D.Disk.image g.D.Disk.left_since g.D.Disk.seen g.D.Disk.faults g.D.Disk.part_faults _ _ _ _ c.args.disk.now c.begin-begun.new.disk (sym c.begun_reply.ensures)
-    (goes_from g.D.Disk.moment g.D.Disk.image g.D.Disk.left_since g.D.Disk.seen g.D.Disk.faults g.D.Disk.part_faults _ _ _ _ c.args.disk.now c.begin-begun.new.disk refl refl refl
-    (begun_goes g.D.Disk.moment g.D.Disk.image g.D.Disk.left_since g.D.Disk.seen g.D.Disk.faults g.D.Disk.part_faults _ is (record { coord = whole.coord; topics = whole.topics }) c.args.disk.now c.begin-begun.new.disk
+    goes_at g.D.Disk _ _ _ _ c.args.disk.now c.begin-begun.new.disk c.self.view_is
+    (goes_for g.D.Disk _ _ _ _ c.args.disk.now c.begin-begun.new.disk (sym c.begun_reply.ensures)
+    (goes_from g.D.Disk _ _ _ _ c.args.disk.now c.begin-begun.new.disk refl refl refl
+    (begun_goes g.D.Disk _ is (record { coord = whole.coord; topics = whole.topics }) c.args.disk.now c.begin-begun.new.disk
     (record { coord = backed.coord; topics = backed.topics }) c.args.timeout (sym c.is_bad_timeout.ensures ∙ c.if-is_bad_timeout.false)
     (no_fault_begin c.self.inside.coordinator c.args.timeout (sym c.is_bad_timeout.ensures ∙ c.if-is_bad_timeout.false))
     c.begin-begun.result c.begin-begun.new.self

@@ -29,4 +29,4 @@ pub returns-clause-goes : goal.returns-clause-goes
 returns-clause-goes g c =
     let is = decision_in _ c.requires.decided in
     close_goes _ c.self.invariant _ c.self.view_is c.requires.whole c.args.txn is.0 (search rules) is.1 c.requires.unclosed c.close.new.self c.close.result c.close.ensures.ok c.close.ensures.fault c.requires.marked
-    g.D.Disk.moment g.D.Disk.image g.D.Disk.left_since g.D.Disk.seen g.D.Disk.faults g.D.Disk.part_faults c.args.disk.now c.close.new.disk c.requires.backed c.close.ensures.tied c.close.ensures.backed c.close.ensures.images c.close.ensures.others c.close.ensures.cause
+    g.D.Disk c.args.disk.now c.close.new.disk c.requires.backed c.close.ensures.tied c.close.ensures.backed c.close.ensures.images c.close.ensures.others c.close.ensures.cause

@@ -38,7 +38,7 @@ returns-clause-ready g c = λ ready.
 pub returns-clause-goes : goal.returns-clause-goes
 returns-clause-goes g c =
     goes_clause _ c.self.invariant _ c.self.view_is c.requires.whole c.args.txn c.args.decision (search rules) c.decide.result c.decide.new.self c.decide.ensures.refused c.decide.ensures.repeated c.decide.ensures.ok c.decide.ensures.fault c.decide.ensures.same
-    g.D.Disk.moment g.D.Disk.image g.D.Disk.left_since g.D.Disk.seen g.D.Disk.faults g.D.Disk.part_faults c.args.disk.now c.decide.new.disk c.requires.backed c.decide.ensures.nothing c.decide.ensures.unwritten c.decide.ensures.tied c.decide.ensures.backed c.decide.ensures.images c.decide.ensures.others c.decide.ensures.cause
+    g.D.Disk c.args.disk.now c.decide.new.disk c.requires.backed c.decide.ensures.nothing c.decide.ensures.unwritten c.decide.ensures.tied c.decide.ensures.backed c.decide.ensures.images c.decide.ensures.others c.decide.ensures.cause
 
 pub returns-clause-rose : goal.returns-clause-rose
 returns-clause-rose g c = λ e. rose_at _ 0 (g.D.Disk.faults c.args.disk.now) (g.D.Disk.faults c.decide.new.disk) (g.D.Disk.part_faults c.args.disk.now) (g.D.Disk.part_faults c.decide.new.disk) c.self.invariant.coord.key (c.decide.ensures.cause.failed e)

@@ -42,4 +42,4 @@ returns-clause-goes g c =
     let at = at_view _ _ c.self.view_is c.args.at c.index_mut.result.now below c.index_mut.ensures.value in
     let way = way_of _ c.self.invariant _ c.self.view_is c.requires.whole c.args.at below c.args.txn c.args.decision (search rules) c.requires.decided c.index_mut.result.now c.mark_topic.new.topic at c.mark_topic.result (c.mark_topic.new.disk ≡ c.args.disk.now) (λ some. let s = c.mark_topic.ensures.stood some in (s.0, s.1, s.2)) c.mark_topic.ensures.ok c.mark_topic.ensures.err in
     goes_clause _ c.self.invariant _ c.self.view_is c.requires.whole c.args.at below c.args.txn c.args.decision (search rules) c.requires.decided c.index_mut.result.now c.mark_topic.new.topic at c.mark_topic.result _ way
-    g.D.Disk.moment g.D.Disk.image g.D.Disk.left_since g.D.Disk.seen g.D.Disk.faults g.D.Disk.part_faults c.args.disk.now c.mark_topic.new.disk c.requires.backed (λ s. s) c.mark_topic.ensures.tied c.mark_topic.ensures.backed c.mark_topic.ensures.images c.mark_topic.ensures.others c.mark_topic.ensures.cause
+    g.D.Disk c.args.disk.now c.mark_topic.new.disk c.requires.backed (λ s. s) c.mark_topic.ensures.tied c.mark_topic.ensures.backed c.mark_topic.ensures.images c.mark_topic.ensures.others c.mark_topic.ensures.cause

@@ -1,6 +1,6 @@
 use Rattle.std.proofs.Common.{◌≡◌, ℕ, ◌≤◌, List, length, Err, refl, sym, ap, ◌∙◌, subst, arith}
 use Rattle.std.proofs.lemmas.Result.{err_from_is_err_and}
-use Rattle.txn_base.specs.Disk.{Since}
+use Rattle.txn_base.specs.Moves.{After}
 use Rattle.txn_model.specs.Sound.{ledger_file}
 use Rattle.txn_model.proofs.Laws.Names.{few_names}
 use Rattle.txn_coordinator.specs.View.{CoordView}
@@ -47,11 +47,11 @@ returns-in_err-coordinator-clause-damaged g c = λ file entry is.
 
 pub returns-in_err-coordinator-clause-lists : goal.returns-in_err-coordinator-clause-lists
 returns-in_err-coordinator-clause-lists g c =
-    keeps_of g.D.Disk.moment g.D.Disk.image g.D.Disk.left_since (ledger_file 0) c.args.disk.now c.open_coordinator.new.disk c.open_coordinator.ensures.images
+    keeps_of g.D.Disk (ledger_file 0) c.args.disk.now c.open_coordinator.new.disk c.open_coordinator.ensures.images
 
 pub returns-in_err-coordinator-clause-images : goal.returns-in_err-coordinator-clause-images
 returns-in_err-coordinator-clause-images g c =
-    worlds_kept g.D.Disk.moment g.D.Disk.image g.D.Disk.left_since c.args.names.items c.args.disk.now c.open_coordinator.new.disk (returns-in_err-coordinator-clause-lists g c)
+    worlds_kept g.D.Disk c.args.names.items c.args.disk.now c.open_coordinator.new.disk (returns-in_err-coordinator-clause-lists g c)
 
 pub returns-in_err-topics-clause-damaged : goal.returns-in_err-topics-clause-damaged
 returns-in_err-topics-clause-damaged g c = λ file entry is.
@@ -72,24 +72,24 @@ returns-in_err-topics-clause-damaged g c = λ file entry is.
 
 pub returns-in_err-topics-clause-lists : goal.returns-in_err-topics-clause-lists
 returns-in_err-topics-clause-lists g c =
-    keeps_then g.D.Disk.moment g.D.Disk.image g.D.Disk.left_since c.args.disk.now c.open_coordinator.new.disk c.open_topics.new.disk
-    (keeps_of g.D.Disk.moment g.D.Disk.image g.D.Disk.left_since (ledger_file 0) c.args.disk.now c.open_coordinator.new.disk c.open_coordinator.ensures.images) c.open_topics.ensures.images
+    keeps_then g.D.Disk c.args.disk.now c.open_coordinator.new.disk c.open_topics.new.disk
+    (keeps_of g.D.Disk (ledger_file 0) c.args.disk.now c.open_coordinator.new.disk c.open_coordinator.ensures.images) c.open_topics.ensures.images
 
 pub returns-in_err-topics-clause-images : goal.returns-in_err-topics-clause-images
-returns-in_err-topics-clause-images g c = worlds_kept g.D.Disk.moment g.D.Disk.image g.D.Disk.left_since c.args.names.items c.args.disk.now c.open_topics.new.disk (returns-in_err-topics-clause-lists g c)
+returns-in_err-topics-clause-images g c = worlds_kept g.D.Disk c.args.names.items c.args.disk.now c.open_topics.new.disk (returns-in_err-topics-clause-lists g c)
 
 pub returns-clause-backed : goal.returns-clause-backed
 returns-clause-backed g c =
-    let kept = backed_kept g.D.Disk.moment g.D.Disk.image g.D.Disk.left_since c.in_ok-coordinator.coordinator.content c.open_coordinator.new.disk c.open_topics.new.disk c.open_topics.ensures.images c.in_ok-coordinator.ensures.backed in
+    let kept = backed_kept g.D.Disk c.in_ok-coordinator.coordinator.content c.open_coordinator.new.disk c.open_topics.new.disk c.open_topics.ensures.images c.in_ok-coordinator.ensures.backed in
     subst (IsBacked (g.D.Disk.image c.open_topics.new.disk)) (sym c.over.ensures) (record { coord = kept; topics = c.in_ok-topics.ensures.backed })
 
 pub returns-clause-lists : goal.returns-clause-lists
 returns-clause-lists g c =
-    keeps_then g.D.Disk.moment g.D.Disk.image g.D.Disk.left_since c.args.disk.now c.open_coordinator.new.disk c.open_topics.new.disk
-    (keeps_of g.D.Disk.moment g.D.Disk.image g.D.Disk.left_since (ledger_file 0) c.args.disk.now c.open_coordinator.new.disk c.open_coordinator.ensures.images) c.open_topics.ensures.images
+    keeps_then g.D.Disk c.args.disk.now c.open_coordinator.new.disk c.open_topics.new.disk
+    (keeps_of g.D.Disk (ledger_file 0) c.args.disk.now c.open_coordinator.new.disk c.open_coordinator.ensures.images) c.open_topics.ensures.images
 
 pub returns-clause-images : goal.returns-clause-images
-returns-clause-images g c = worlds_kept g.D.Disk.moment g.D.Disk.image g.D.Disk.left_since c.args.names.items c.args.disk.now c.open_topics.new.disk (returns-clause-lists g c)
+returns-clause-images g c = worlds_kept g.D.Disk c.args.names.items c.args.disk.now c.open_topics.new.disk (returns-clause-lists g c)
 
 pub returns-clause-undamaged : goal.returns-clause-undamaged
 returns-clause-undamaged g c = λ told.
@@ -121,7 +121,7 @@ returns-clause-table g c = λ told w stands.
 
 pub returns-in_err-coordinator-clause-elsewhere : goal.returns-in_err-coordinator-clause-elsewhere
 returns-in_err-coordinator-clause-elsewhere g c =
-    images_change g.D.Disk.moment g.D.Disk.image g.D.Disk.left_since (length c.args.names.items) 0 _ c.args.disk.now c.open_coordinator.new.disk (omega arith) c.open_coordinator.ensures.images
+    images_change g.D.Disk (length c.args.names.items) 0 _ c.args.disk.now c.open_coordinator.new.disk (omega arith) c.open_coordinator.ensures.images
 
 pub returns-in_err-coordinator-clause-others : goal.returns-in_err-coordinator-clause-others
 returns-in_err-coordinator-clause-others g c =
@@ -131,9 +131,9 @@ pub returns-in_err-topics-clause-elsewhere : goal.returns-in_err-topics-clause-e
 returns-in_err-topics-clause-elsewhere g c =
     let count : c.len-named.result ≡ length c.args.names.items = omega (arith, c.len-named.ensures, c.args.names.ok) in
     let n : ℕ = length c.args.names.items in
-    images_then g.D.Disk.moment g.D.Disk.image g.D.Disk.left_since n c.args.disk.now c.open_coordinator.new.disk c.open_topics.new.disk
-    (images_change g.D.Disk.moment g.D.Disk.image g.D.Disk.left_since n 0 _ c.args.disk.now c.open_coordinator.new.disk (omega arith) c.open_coordinator.ensures.images)
-    (subst (λ (m : ℕ). Since g.D.Disk.moment g.D.Disk.image g.D.Disk.left_since (OnlyLedgers m) c.open_coordinator.new.disk c.open_topics.new.disk) count c.open_topics.ensures.elsewhere)
+    images_then g.D.Disk n c.args.disk.now c.open_coordinator.new.disk c.open_topics.new.disk
+    (images_change g.D.Disk n 0 _ c.args.disk.now c.open_coordinator.new.disk (omega arith) c.open_coordinator.ensures.images)
+    (subst (λ (m : ℕ). After g.D.Disk (OnlyLedgers m) c.open_coordinator.new.disk c.open_topics.new.disk) count c.open_topics.ensures.elsewhere)
 
 pub returns-in_err-topics-clause-others : goal.returns-in_err-topics-clause-others
 returns-in_err-topics-clause-others g c =
@@ -148,9 +148,9 @@ pub returns-clause-elsewhere : goal.returns-clause-elsewhere
 returns-clause-elsewhere g c =
     let count : c.len-named.result ≡ length c.args.names.items = omega (arith, c.len-named.ensures, c.args.names.ok) in
     let n : ℕ = length c.args.names.items in
-    images_then g.D.Disk.moment g.D.Disk.image g.D.Disk.left_since n c.args.disk.now c.open_coordinator.new.disk c.open_topics.new.disk
-    (images_change g.D.Disk.moment g.D.Disk.image g.D.Disk.left_since n 0 _ c.args.disk.now c.open_coordinator.new.disk (omega arith) c.open_coordinator.ensures.images)
-    (subst (λ (m : ℕ). Since g.D.Disk.moment g.D.Disk.image g.D.Disk.left_since (OnlyLedgers m) c.open_coordinator.new.disk c.open_topics.new.disk) count c.open_topics.ensures.elsewhere)
+    images_then g.D.Disk n c.args.disk.now c.open_coordinator.new.disk c.open_topics.new.disk
+    (images_change g.D.Disk n 0 _ c.args.disk.now c.open_coordinator.new.disk (omega arith) c.open_coordinator.ensures.images)
+    (subst (λ (m : ℕ). After g.D.Disk (OnlyLedgers m) c.open_coordinator.new.disk c.open_topics.new.disk) count c.open_topics.ensures.elsewhere)
 
 pub returns-clause-others : goal.returns-clause-others
 returns-clause-others g c =

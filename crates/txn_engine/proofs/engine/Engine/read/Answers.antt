@@ -33,8 +33,8 @@ pub returns-in-Ok-read-clause-goes : goal.returns-in-Ok-read-clause-goes
 returns-in-Ok-read-clause-goes g c =
     let known = ap (λ (ns : List (List ℕ)). part_of ns c.args.topic.now) (sym c.deref.ensures.value) ∙ sym c.part_of.ensures.value ∙ c.in-Some.is in
     let found = knows _ c.self.invariant c.args.topic.now c.in-Some.number known in
-    goes_both g.D.Disk.moment g.D.Disk.image g.D.Disk.left_since g.D.Disk.seen g.D.Disk.faults g.D.Disk.part_faults _ _ _ c.args.disk.now c.read.new.disk c.self.view_is
-    (read_goes g.D.Disk.moment g.D.Disk.image g.D.Disk.left_since c.args.disk.now c.read.new.disk c.in-Ok-read.ensures.images g.D.Disk.seen c.in-Ok-read.ensures.seen g.D.Disk.faults g.D.Disk.part_faults _ c.self.invariant (subst IsWhole (sym c.self.view_is) c.requires.whole)
+    goes_both g.D.Disk _ _ _ c.args.disk.now c.read.new.disk c.self.view_is
+    (read_goes g.D.Disk c.args.disk.now c.read.new.disk c.in-Ok-read.ensures.images c.in-Ok-read.ensures.seen _ c.self.invariant (subst IsWhole (sym c.self.view_is) c.requires.whole)
     (subst (IsBacked (g.D.Disk.image c.args.disk.now)) (sym c.self.view_is) c.requires.backed) c.args.topic.now c.in-Some.number known c.index-part.result.now (at_known _ _ _ _ found _ c.index-part.ensures) _ _ c.in-Ok-read.ensures.cause (λ h. cc))
 
 pub returns-in-Err-Damaged-clause-tellable : goal.returns-in-Err-Damaged-clause-tellable
@@ -45,8 +45,8 @@ pub returns-in-Err-Damaged-clause-goes : goal.returns-in-Err-Damaged-clause-goes
 returns-in-Err-Damaged-clause-goes g c =
     let known = ap (λ (ns : List (List ℕ)). part_of ns c.args.topic.now) (sym c.deref.ensures.value) ∙ sym c.part_of.ensures.value ∙ c.in-Some.is in
     let found = knows _ c.self.invariant c.args.topic.now c.in-Some.number known in
-    goes_both g.D.Disk.moment g.D.Disk.image g.D.Disk.left_since g.D.Disk.seen g.D.Disk.faults g.D.Disk.part_faults _ _ _ c.args.disk.now c.read.new.disk c.self.view_is
-    (read_goes g.D.Disk.moment g.D.Disk.image g.D.Disk.left_since c.args.disk.now c.read.new.disk c.in-Err-Damaged.ensures.images g.D.Disk.seen c.in-Err-Damaged.ensures.seen g.D.Disk.faults g.D.Disk.part_faults _ c.self.invariant (subst IsWhole (sym c.self.view_is) c.requires.whole)
+    goes_both g.D.Disk _ _ _ c.args.disk.now c.read.new.disk c.self.view_is
+    (read_goes g.D.Disk c.args.disk.now c.read.new.disk c.in-Err-Damaged.ensures.images c.in-Err-Damaged.ensures.seen _ c.self.invariant (subst IsWhole (sym c.self.view_is) c.requires.whole)
     (subst (IsBacked (g.D.Disk.image c.args.disk.now)) (sym c.self.view_is) c.requires.backed) c.args.topic.now c.in-Some.number known c.index-part.result.now (at_known _ _ _ _ found _ c.index-part.ensures) _ _ c.in-Err-Damaged.ensures.cause (λ h. cc))
 
 pub returns-in-Err-Fault-clause-told : goal.returns-in-Err-Fault-clause-told
@@ -67,16 +67,16 @@ pub returns-in-Err-Fault-clause-goes : goal.returns-in-Err-Fault-clause-goes
 returns-in-Err-Fault-clause-goes g c =
     let known = ap (λ (ns : List (List ℕ)). part_of ns c.args.topic.now) (sym c.deref.ensures.value) ∙ sym c.part_of.ensures.value ∙ c.in-Some.is in
     let found = knows _ c.self.invariant c.args.topic.now c.in-Some.number known in
-    goes_both g.D.Disk.moment g.D.Disk.image g.D.Disk.left_since g.D.Disk.seen g.D.Disk.faults g.D.Disk.part_faults _ _ _ c.args.disk.now c.read.new.disk c.self.view_is
-    (read_goes g.D.Disk.moment g.D.Disk.image g.D.Disk.left_since c.args.disk.now c.read.new.disk c.in-Err-Fault.ensures.images g.D.Disk.seen c.in-Err-Fault.ensures.seen g.D.Disk.faults g.D.Disk.part_faults _ c.self.invariant (subst IsWhole (sym c.self.view_is) c.requires.whole)
+    goes_both g.D.Disk _ _ _ c.args.disk.now c.read.new.disk c.self.view_is
+    (read_goes g.D.Disk c.args.disk.now c.read.new.disk c.in-Err-Fault.ensures.images c.in-Err-Fault.ensures.seen _ c.self.invariant (subst IsWhole (sym c.self.view_is) c.requires.whole)
     (subst (IsBacked (g.D.Disk.image c.args.disk.now)) (sym c.self.view_is) c.requires.backed) c.args.topic.now c.in-Some.number known c.index-part.result.now (at_known _ _ _ _ found _ c.index-part.ensures) _ _ c.in-Err-Fault.ensures.cause (λ h. ap Err c.in-Err-Fault.field-0-is))
 
 pub returns-in-Err-NoMemory-clause-goes : goal.returns-in-Err-NoMemory-clause-goes
 returns-in-Err-NoMemory-clause-goes g c =
     let known = ap (λ (ns : List (List ℕ)). part_of ns c.args.topic.now) (sym c.deref.ensures.value) ∙ sym c.part_of.ensures.value ∙ c.in-Some.is in
     let found = knows _ c.self.invariant c.args.topic.now c.in-Some.number known in
-    goes_both g.D.Disk.moment g.D.Disk.image g.D.Disk.left_since g.D.Disk.seen g.D.Disk.faults g.D.Disk.part_faults _ _ _ c.args.disk.now c.read.new.disk c.self.view_is
-    (read_goes g.D.Disk.moment g.D.Disk.image g.D.Disk.left_since c.args.disk.now c.read.new.disk c.in-Err-NoMemory.ensures.images g.D.Disk.seen c.in-Err-NoMemory.ensures.seen g.D.Disk.faults g.D.Disk.part_faults _ c.self.invariant (subst IsWhole (sym c.self.view_is) c.requires.whole)
+    goes_both g.D.Disk _ _ _ c.args.disk.now c.read.new.disk c.self.view_is
+    (read_goes g.D.Disk c.args.disk.now c.read.new.disk c.in-Err-NoMemory.ensures.images c.in-Err-NoMemory.ensures.seen _ c.self.invariant (subst IsWhole (sym c.self.view_is) c.requires.whole)
     (subst (IsBacked (g.D.Disk.image c.args.disk.now)) (sym c.self.view_is) c.requires.backed) c.args.topic.now c.in-Some.number known c.index-part.result.now (at_known _ _ _ _ found _ c.index-part.ensures) _ _ c.in-Err-NoMemory.ensures.cause (λ h. cc))
 
 pub returns-in_default-clause-damaged : goal.returns-in_default-clause-damaged

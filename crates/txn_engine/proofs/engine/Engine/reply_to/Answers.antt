@@ -1,9 +1,11 @@
-use Rattle.std.proofs.Common.{sym, subst}
+use Rattle.std.proofs.Common.{sym, subst, refl, ◌∙◌}
+use Rattle.std.proofs.lemmas.Bool.{false≢true}
 use Rattle.txn_base.specs.declared.request.Request.{Request}
 use Rattle.txn_engine.specs.Damage.{IsDamageIn}
 use Rattle.txn_engine.proofs.AtView.{asked_so}
 use Rattle.txn_engine.proofs.Damage.{none_told}
-use Rattle.txn_engine.specs.Told.{RoseFor}
+use Rattle.txn_base.specs.Moves.{RoseIn}
+use Rattle.txn_engine.proofs.Going.{goes_still}
 use Rattle.txn_engine.proofs.Faults.{none_named}
 use Rattle.txn_engine.specs.Causes.{TellsEarly}
 use Rattle.txn_engine.specs.Table.{world_of}
@@ -68,7 +70,7 @@ pub returns-in-Read-clause-damaged : goal.returns-in-Read-clause-damaged
 returns-in-Read-clause-damaged g c = λ part place is. subst (λ (r : Request). IsDamageIn g.D.Disk.tells c.args.self.now r part place) (sym c.in-Read.is) (c.read.ensures.damaged part place is)
 
 pub returns-in-Status-clause-named : goal.returns-in-Status-clause-named
-returns-in-Status-clause-named g c = none_named c.args.self.now.names (RoseFor (g.D.Disk.faults c.args.disk.now) (g.D.Disk.faults c.args.disk.now) (g.D.Disk.part_faults c.args.disk.now) (g.D.Disk.part_faults c.args.disk.now)) c.status.result c.status.ensures.unnamed
+returns-in-Status-clause-named g c = none_named c.args.self.now.names (RoseIn g.D.Disk c.args.disk.now c.args.disk.now) c.status.result c.status.ensures.unnamed
 
 pub returns-in-New-clause-early : goal.returns-in-New-clause-early
 returns-in-New-clause-early g c = subst (λ (r : Request). TellsEarly c.args.self.now.limits (world_of c.args.self.now) r c.begin.result) (sym c.in-New.is) c.begin.ensures.early
@@ -93,4 +95,12 @@ returns-in-Abort-clause-early g c = subst (λ (r : Request). TellsEarly c.args.s
 
 pub returns-in_default-clause-early : goal.returns-in_default-clause-early
 returns-in_default-clause-early g c = λ row is.
+    absurd (none_other c.args.request.now c.requires.asked c.in_default.not-New c.in_default.not-Add c.in_default.not-Publish c.in_default.not-Read c.in_default.not-Commit c.in_default.not-Abort c.in_default.not-Status)
+
+pub returns-in-Status-clause-goes : goal.returns-in-Status-clause-goes
+returns-in-Status-clause-goes g c =
+    goes_still g.D.Disk _ (λ is. false≢true (sym c.status.ensures.no_fault ∙ is)) c.args.self.now c.args.self.now c.args.disk.now c.requires.whole c.requires.backed refl refl refl
+
+pub returns-in_default-clause-goes : goal.returns-in_default-clause-goes
+returns-in_default-clause-goes g c =
     absurd (none_other c.args.request.now c.requires.asked c.in_default.not-New c.in_default.not-Add c.in_default.not-Publish c.in_default.not-Read c.in_default.not-Commit c.in_default.not-Abort c.in_default.not-Status)

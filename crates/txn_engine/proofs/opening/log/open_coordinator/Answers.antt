@@ -12,7 +12,7 @@ loop-file-preserved g c =
     record {
       log = opening_step c.args.limits.now c.args.named c.loop-file.coordinator c.mend_step.new.self was.log (sym c.is_whole.ensures.whole ∙ c.loop-file-test.true) now.ok (now.lawful was.log.lawful);
       backed = now.backed;
-      images = mended_keeps g.D.Disk.moment g.D.Disk.image g.D.Disk.left_since (ledger_file 0) c.loop-file.coordinator.content c.args.disk.now c.loop-file.disk c.mend_step.new.disk was.log.key was.log.settled_is was.backed was.images now.images;
+      images = mended_keeps g.D.Disk (ledger_file 0) c.loop-file.coordinator.content c.args.disk.now c.loop-file.disk c.mend_step.new.disk was.log.key was.log.settled_is was.backed was.images now.images;
       others = others_then c.loop-file.coordinator.content.key (ledger_file 0) (g.D.Disk.seen c.args.disk.now) (g.D.Disk.seen c.loop-file.disk) (g.D.Disk.seen c.mend_step.new.disk) was.log.key was.others now.others;
       counts = part_none 0 _ _ (g.D.Disk.part_faults c.args.disk.now) (g.D.Disk.part_faults c.mend_step.new.disk) _
           (part_then 0 _ _ _ (g.D.Disk.part_faults c.args.disk.now) (g.D.Disk.part_faults c.loop-file.disk) (g.D.Disk.part_faults c.mend_step.new.disk) _ _ was.counts
@@ -33,7 +33,7 @@ returns-in-Err-mend_step-clause-damaged g c file entry e =
 pub returns-in-Err-mend_step-clause-images : goal.returns-in-Err-mend_step-clause-images
 returns-in-Err-mend_step-clause-images g c =
     let was = c.loop-file.invariant in
-    mended_keeps g.D.Disk.moment g.D.Disk.image g.D.Disk.left_since (ledger_file 0) c.loop-file.coordinator.content c.args.disk.now c.loop-file.disk c.mend_step.new.disk was.log.key was.log.settled_is was.backed was.images c.in-Err-mend_step.ensures.images
+    mended_keeps g.D.Disk (ledger_file 0) c.loop-file.coordinator.content c.args.disk.now c.loop-file.disk c.mend_step.new.disk was.log.key was.log.settled_is was.backed was.images c.in-Err-mend_step.ensures.images
 
 pub returns-in-Err-mend_step-clause-cause : goal.returns-in-Err-mend_step-clause-cause
 returns-in-Err-mend_step-clause-cause g c =

@@ -11,7 +11,7 @@ loop-file-preserved g c =
     record {
       part = opening_step c.args.limits.now c.args.part c.loop-file.topic c.mend_step.new.self c.in_default-mend_step.field-0 was.part now.settled now.ok;
       backed = now.backed;
-      images = mended_keeps g.D.Disk.moment g.D.Disk.image g.D.Disk.left_since (ledger_file c.args.part) c.loop-file.topic.content c.args.disk.now c.loop-file.disk c.mend_step.new.disk was.part.key was.part.settled_is was.backed was.images now.images;
+      images = mended_keeps g.D.Disk (ledger_file c.args.part) c.loop-file.topic.content c.args.disk.now c.loop-file.disk c.mend_step.new.disk was.part.key was.part.settled_is was.backed was.images now.images;
       others = others_then c.loop-file.topic.content.key (ledger_file c.args.part) (g.D.Disk.seen c.args.disk.now) (g.D.Disk.seen c.loop-file.disk) (g.D.Disk.seen c.mend_step.new.disk) was.part.key was.others now.others;
       counts = part_none c.args.part _ _ (g.D.Disk.part_faults c.args.disk.now) (g.D.Disk.part_faults c.mend_step.new.disk) _
           (part_then c.args.part _ _ _ (g.D.Disk.part_faults c.args.disk.now) (g.D.Disk.part_faults c.loop-file.disk) (g.D.Disk.part_faults c.mend_step.new.disk) _ _ was.counts
@@ -32,7 +32,7 @@ returns-in-Err-mend_step-clause-damaged g c file entry e =
 pub returns-in-Err-mend_step-clause-images : goal.returns-in-Err-mend_step-clause-images
 returns-in-Err-mend_step-clause-images g c =
     let was = c.loop-file.invariant in
-    mended_keeps g.D.Disk.moment g.D.Disk.image g.D.Disk.left_since (ledger_file c.args.part) c.loop-file.topic.content c.args.disk.now c.loop-file.disk c.mend_step.new.disk was.part.key was.part.settled_is was.backed was.images c.in-Err-mend_step.ensures.images
+    mended_keeps g.D.Disk (ledger_file c.args.part) c.loop-file.topic.content c.args.disk.now c.loop-file.disk c.mend_step.new.disk was.part.key was.part.settled_is was.backed was.images c.in-Err-mend_step.ensures.images
 
 pub returns-in-Err-mend_step-clause-cause : goal.returns-in-Err-mend_step-clause-cause
 returns-in-Err-mend_step-clause-cause g c =

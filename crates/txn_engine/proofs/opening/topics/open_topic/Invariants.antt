@@ -1,5 +1,6 @@
+use Rattle.txn_base.specs.Moves.{After}
 use Rattle.txn_base.specs.Content.{Backed}
-use Rattle.txn_base.specs.Disk.{Elsewhere, Since, Changes, CountsFaults}
+use Rattle.txn_base.specs.Disk.{Elsewhere, Changes, CountsFaults}
 use Rattle.txn_ledger.specs.Found.{KeepsList}
 use Rattle.txn_ledger.specs.Ledger.{StandsIn}
 use Rattle.txn_model.specs.Sound.{ledger_file}
@@ -10,7 +11,7 @@ abbrev pub invariant-loop-file : goal.invariant-loop-file
 invariant-loop-file g l = record {
   part : IsOpening l.limits l.part l.topic;
   backed : Backed StandsIn (g.D.Disk.image l.disk) l.topic.content;
-  images : Since g.D.Disk.moment g.D.Disk.image g.D.Disk.left_since (Changes (ledger_file l.part) KeepsList) l.fn.disk l.disk;
+  images : After g.D.Disk (Changes (ledger_file l.part) KeepsList) l.fn.disk l.disk;
   others : Elsewhere (ledger_file l.part) (g.D.Disk.seen l.fn.disk) (g.D.Disk.seen l.disk);
   counts : CountsFaults l.part (g.D.Disk.faults l.fn.disk) (g.D.Disk.faults l.disk) (g.D.Disk.part_faults l.fn.disk) (g.D.Disk.part_faults l.disk) ⊥;
   told : g.D.Disk.tells → IsTold (g.D.Disk.seen l.fn.disk (ledger_file l.part)) l.topic;

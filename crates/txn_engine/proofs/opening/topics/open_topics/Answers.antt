@@ -21,7 +21,7 @@ loop-index-preserved g c =
     let part = c.loop-index.index + 1 in
     let topic : TopicView = c.in_ok-topic.topic in
     let pushed : c.push_reserved.new.self.items ≡ c.loop-index.topics.items ++ topic ∷ [] = c.push_reserved.ensures.items in
-    let since = keeps_of g.D.Disk.moment g.D.Disk.image g.D.Disk.left_since (ledger_file part) c.loop-index.disk c.open_topic.new.disk now.images in
+    let since = keeps_of g.D.Disk (ledger_file part) c.loop-index.disk c.open_topic.new.disk now.images in
     record {
       count = omega (arith, was.count, ap length pushed, length-append c.loop-index.topics.items (topic ∷ []));
       room = omega (arith, was.room, c.push_reserved.ensures.capacity);
@@ -29,15 +29,15 @@ loop-index-preserved g c =
       whole = subst (All (λ t. IsTrue t.whole)) (sym pushed) (All-push (λ t. IsTrue t.whole) c.loop-index.topics.items topic was.whole now.opened.1);
       backed = subst (All (λ t. Backed StandsIn (g.D.Disk.image c.open_topic.new.disk) t.content)) (sym pushed)
           (All-push (λ t. Backed StandsIn (g.D.Disk.image c.open_topic.new.disk) t.content) c.loop-index.topics.items topic
-          (topics_kept g.D.Disk.moment g.D.Disk.image g.D.Disk.left_since c.loop-index.topics.items c.loop-index.disk c.open_topic.new.disk since was.backed) now.backed);
+          (topics_kept g.D.Disk c.loop-index.topics.items c.loop-index.disk c.open_topic.new.disk since was.backed) now.backed);
       told = λ told. subst (All (λ t. IsTopicOf t (g.D.Disk.seen c.args.disk.now t.content.key))) (sym pushed)
           (told_more (g.D.Disk.seen c.args.disk.now) (g.D.Disk.seen c.loop-index.disk) c.loop-index.topics.items topic part now.opened.0.key (was.others part (omega arith)) (now.told told) (was.told told));
-      images = keeps_then g.D.Disk.moment g.D.Disk.image g.D.Disk.left_since c.args.disk.now c.loop-index.disk c.open_topic.new.disk was.images since;
+      images = keeps_then g.D.Disk c.args.disk.now c.loop-index.disk c.open_topic.new.disk was.images since;
       uncut = λ tells. damaged_then (g.D.Disk.seen c.args.disk.now) (g.D.Disk.seen c.loop-index.disk) (g.D.Disk.seen c.open_topic.new.disk) (was.uncut tells)
           (damaged_all (ledger_file part) (g.D.Disk.seen c.loop-index.disk) (g.D.Disk.seen c.open_topic.new.disk) now.others (now.uncut tells));
       others = λ q above. now.others (ledger_file q) (files_apart q part (λ e. omega (arith, above, e))) ∙ was.others q (omega (arith, above));
-      elsewhere = images_then g.D.Disk.moment g.D.Disk.image g.D.Disk.left_since c.args.named c.args.disk.now c.loop-index.disk c.open_topic.new.disk was.elsewhere
-          (images_change g.D.Disk.moment g.D.Disk.image g.D.Disk.left_since c.args.named part _ c.loop-index.disk c.open_topic.new.disk (omega (arith, c.loop-index-test.true)) now.images);
+      elsewhere = images_then g.D.Disk c.args.named c.args.disk.now c.loop-index.disk c.open_topic.new.disk was.elsewhere
+          (images_change g.D.Disk c.args.named part _ c.loop-index.disk c.open_topic.new.disk (omega (arith, c.loop-index-test.true)) now.images);
       apart = only_then c.args.named (g.D.Disk.seen c.args.disk.now) (g.D.Disk.seen c.loop-index.disk) (g.D.Disk.seen c.open_topic.new.disk) was.apart
           (only_one c.args.named part (ledger_file part) (g.D.Disk.seen c.loop-index.disk) (g.D.Disk.seen c.open_topic.new.disk) refl (omega (arith, c.loop-index-test.true)) now.others);
       counts = counts_then c.args.named _ _ _ (g.D.Disk.part_faults c.args.disk.now) (g.D.Disk.part_faults c.loop-index.disk) (g.D.Disk.part_faults c.open_topic.new.disk) _ _ was.counts
@@ -63,13 +63,13 @@ returns-in_err-topic-clause-damaged g c = λ file entry is.
 
 pub returns-in_err-topic-clause-images : goal.returns-in_err-topic-clause-images
 returns-in_err-topic-clause-images g c =
-    keeps_then g.D.Disk.moment g.D.Disk.image g.D.Disk.left_since c.args.disk.now c.loop-index.disk c.open_topic.new.disk c.loop-index.invariant.images
-    (keeps_of g.D.Disk.moment g.D.Disk.image g.D.Disk.left_since (ledger_file (c.loop-index.index + 1)) c.loop-index.disk c.open_topic.new.disk c.open_topic.ensures.images)
+    keeps_then g.D.Disk c.args.disk.now c.loop-index.disk c.open_topic.new.disk c.loop-index.invariant.images
+    (keeps_of g.D.Disk (ledger_file (c.loop-index.index + 1)) c.loop-index.disk c.open_topic.new.disk c.open_topic.ensures.images)
 
 pub returns-in_err-topic-clause-elsewhere : goal.returns-in_err-topic-clause-elsewhere
 returns-in_err-topic-clause-elsewhere g c =
-    images_then g.D.Disk.moment g.D.Disk.image g.D.Disk.left_since c.args.named c.args.disk.now c.loop-index.disk c.open_topic.new.disk c.loop-index.invariant.elsewhere
-    (images_change g.D.Disk.moment g.D.Disk.image g.D.Disk.left_since c.args.named (c.loop-index.index + 1) _ c.loop-index.disk c.open_topic.new.disk (omega (arith, c.loop-index-test.true)) c.open_topic.ensures.images)
+    images_then g.D.Disk c.args.named c.args.disk.now c.loop-index.disk c.open_topic.new.disk c.loop-index.invariant.elsewhere
+    (images_change g.D.Disk c.args.named (c.loop-index.index + 1) _ c.loop-index.disk c.open_topic.new.disk (omega (arith, c.loop-index-test.true)) c.open_topic.ensures.images)
 
 pub returns-in_err-topic-clause-others : goal.returns-in_err-topic-clause-others
 returns-in_err-topic-clause-others g c =

@@ -1,6 +1,6 @@
 use Rattle.std.proofs.Common.{◌≡◌, ◌<◌, ℕ, length, All, IsTrue, vec_capacity, ◌≤◌}
+use Rattle.txn_base.specs.Moves.{After}
 use Rattle.txn_base.specs.Content.{Backed}
-use Rattle.txn_base.specs.Disk.{Since}
 use Rattle.txn_ledger.specs.Ledger.{StandsIn}
 use Rattle.txn_model.specs.Sound.{ledger_file}
 use Rattle.txn_engine.specs.Files.{OnlyLedgers}
@@ -17,10 +17,10 @@ invariant-loop-index g l = record {
   whole : All (λ t. IsTrue t.whole) l.topics.items;
   backed : All (λ t. Backed StandsIn (g.D.Disk.image l.disk) t.content) l.topics.items;
   told : g.D.Disk.tells → All (λ t. IsTopicOf t (g.D.Disk.seen l.fn.disk t.content.key)) l.topics.items;
-  images : Since g.D.Disk.moment g.D.Disk.image g.D.Disk.left_since KeepsLists l.fn.disk l.disk;
+  images : After g.D.Disk KeepsLists l.fn.disk l.disk;
   uncut : g.D.Disk.tells → KeepsAllDamaged (g.D.Disk.seen l.fn.disk) (g.D.Disk.seen l.disk);
   others : (q : ℕ) → l.index < q → g.D.Disk.seen l.disk (ledger_file q) ≡ g.D.Disk.seen l.fn.disk (ledger_file q);
-  elsewhere : Since g.D.Disk.moment g.D.Disk.image g.D.Disk.left_since (OnlyLedgers l.named) l.fn.disk l.disk;
+  elsewhere : After g.D.Disk (OnlyLedgers l.named) l.fn.disk l.disk;
   apart : OnlyLedgers l.named (g.D.Disk.seen l.fn.disk) (g.D.Disk.seen l.disk);
   counts : CountsWithin l.named (g.D.Disk.faults l.fn.disk) (g.D.Disk.faults l.disk) (g.D.Disk.part_faults l.fn.disk) (g.D.Disk.part_faults l.disk) ⊥;
 }

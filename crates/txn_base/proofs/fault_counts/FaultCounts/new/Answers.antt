@@ -2,7 +2,7 @@ use Rattle.std.proofs.Common.{◌≡◌, ℕ, Bool, true, false, List, get_or, r
 use Rattle.std.specs.Prelude.{nat_lt, if◌then◌else◌}
 use Rattle.std.proofs.Math.ListN.{replicate}
 use Rattle.std.proofs.lemmas.List.{get_or-replicate}
-use Rattle.txn_memdisk.proofs.counts.Counts.new.Goals as goal
+use Rattle.txn_base.proofs.fault_counts.FaultCounts.new.Goals as goal
 
 zero_either_way : (b : Bool) (n : ℕ) → (b ≡ true → n ≡ 0) → (if b then n else 0) ≡ 0
 zero_either_way true n e = e refl

@@ -1,25 +1,26 @@
 //! How many calls of a disk have failed.
 ghost use Rattle.std.specs.Prelude.{◌≡◌, ◌<◌, ◌≤◌, ℕ};
+ghost use Rattle.txn_base.specs.FaultCounts.{part_count};
+ghost use Rattle.txn_base.specs.Outside.{counted};
 
-use txn_base::Failed;
+use crate::failed::Failed;
 
-/// The failed calls: all of them, and by the part of the file. The parts from 128 on share one count.
+/// The failed calls: all of them, and by the part of the file. The parts from 128 on share one count. A count stands still
+/// at its type's end.
 #[derive(Drop)]
-pub struct Counts {
+pub struct FaultCounts {
     pub all: u64,
     pub parts: [u64; 128],
     pub beyond: u64,
 }
 
-impl Counts {
-    ghost use Rattle.txn_memdisk.specs.Counts.{raised, part_count};
-
+impl FaultCounts {
     /// None has failed.
     pub fn new() -> Self
         ensures all { result.all ≡ 0 }
         ensures parts { (p : ℕ) → part_count result p ≡ 0 }
     {
-        Counts {
+        FaultCounts {
             all: 0,
             parts: [0; 128],
             beyond: 0,
@@ -28,9 +29,9 @@ impl Counts {
 
     /// Counts a failed call on a file of this part.
     pub fn rise(&mut self, part: u32) -> Failed
-        ensures all { self.new.all ≡ raised self.old.all }
+        ensures all { self.new.all ≡ counted 1 self.old.all }
         ensures later { self.old.all ≤ self.new.all }
-        ensures part { part_count self.new part ≡ raised (part_count self.old part) }
+        ensures part { part_count self.new part ≡ counted 1 (part_count self.old part) }
         ensures parts_later { (p : ℕ) → part_count self.old p ≤ part_count self.new p }
         ensures others { (p : ℕ) → p < 128 → (p ≡ part → ⊥) → part_count self.new p ≡ part_count self.old p }
     {
