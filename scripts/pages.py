@@ -1,7 +1,7 @@
 #!/usr/bin/env python3
 """Looks whether the pages say what is there: each clause, law, definition, wrong body, file and script that they name is found in
-the sources, each link leads to a page and a section, no table stands twice, the README of a crate has fewer than 40 lines, and no
-line of text in README.md, docs and examples is wider than 128 columns. Usage: pages.py   (it starts no program)"""
+the sources, each link leads to a page and a section, no table stands twice, the README of a crate has fewer than 40 lines and says
+the crate's one idea and where its promises stand, and no line of text in README.md, docs and examples is wider than 128 columns. Usage: pages.py   (it starts no program)"""
 import collections
 import glob
 import os
@@ -10,8 +10,6 @@ import sys
 
 TOP = os.path.join(os.path.dirname(os.path.abspath(__file__)), "..")
 WIDTH, CRATE_LINES = 128, 40
-# The READMEs of these are long on purpose: each is the one page of its subject.
-LONG = ("txn_stories", "txn_vectors")
 FUNCTION = re.compile(r"^\s*(?:pub )?(?:const )?fn (\w+)")
 CLAUSE = re.compile(r"\s*ensures (?:(\w+) )?\{")
 GHOST = re.compile(r"\s*ghost (\w+)(?::| =)")
@@ -148,8 +146,11 @@ def sizes(wrong):
     for path in pages():
         lines = read(path).rstrip("\n").split("\n")
         crate = path.split("/")[1] if path.startswith("crates/") else None
-        if crate and crate not in LONG and len(lines) >= CRATE_LINES:
+        if crate and len(lines) >= CRATE_LINES:
             wrong.append(f"{path}: {len(lines)} lines, where fewer than {CRATE_LINES} are allowed")
+        for head in ("## Its one idea", "## Promises") if crate else ():
+            if head not in lines:
+                wrong.append(f"{path}: no section \"{head[3:]}\"")
         for number, line, code in text_and_code(path):
             if len(line) > WIDTH and not crate and not line.startswith("|") and not code:
                 wrong.append(f"{path}:{number}: {len(line)} columns")

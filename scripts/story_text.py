@@ -1,4 +1,4 @@
-"""The text of stories, read as crates/txn_stories/README.md has it and apart from the program that tells them: stories with their
+"""The text of stories, read as docs/STORIES.md has it and apart from the program that tells them: stories with their
 cases, steps, words, the frames of files, and what stands for bytes that are tedious to write."""
 import re
 

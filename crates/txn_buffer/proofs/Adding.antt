@@ -22,7 +22,7 @@ use Rattle.txn_model.specs.Topic.{marker_of, part_allows}
 use Rattle.txn_buffer.specs.Adding.{AreBodies, ArePublished, messages_of, message_kind, IsMessageOf, IsUnmarked, opens_for}
 use Rattle.txn_buffer.specs.Front.{opens_of, ends_of}
 use Rattle.txn_buffer.specs.Record.{IsInGrammar}
-use Rattle.txn_buffer.specs.View.{batch_of}
+use Rattle.txn_buffer.specs.View.{topic_batch}
 use Rattle.txn_buffer.proofs.Tables.{skeletons-push, unmarked_after}
 
 -- what holds of each of these bytes holds of one of them
@@ -41,11 +41,11 @@ module _ (txn : Option TxnId) (bodies : List Roomy) (i : ℕ) (body : Roomy) (is
   messages-more : messages_of txn (contents_of (take (i + 1) bodies)) ≡ messages_of txn (contents_of (take i bodies)) ++ message_entry txn body.bytes ∷ []
   messages-more = ap (messages_of txn) (contents-more bodies i body is within) ∙ map-append (message_entry txn) (contents_of (take i bodies)) (body.bytes ∷ [])
 
-  pub batch_more : contents_of batch ≡ batch_of (messages_of txn (contents_of (take i bodies))) → bytes.bytes ≡ topic_record 1 (message_entry txn body.bytes)
-      → contents_of more ≡ batch_of (messages_of txn (contents_of (take (i + 1) bodies)))
+  pub batch_more : contents_of batch ≡ topic_batch (messages_of txn (contents_of (take i bodies))) → bytes.bytes ≡ topic_record 1 (message_entry txn body.bytes)
+      → contents_of more ≡ topic_batch (messages_of txn (contents_of (take (i + 1) bodies)))
   batch_more so_far one =
-      ap contents_of pushed ∙ contents-push batch bytes ∙ ap (λ l. l ++ bytes.bytes ∷ []) so_far ∙ ap (λ b. batch_of (messages_of txn (contents_of (take i bodies))) ++ b ∷ []) one
-      ∙ sym (ap batch_of messages-more ∙ map-append (topic_record 1) (messages_of txn (contents_of (take i bodies))) (message_entry txn body.bytes ∷ []))
+      ap contents_of pushed ∙ contents-push batch bytes ∙ ap (λ l. l ++ bytes.bytes ∷ []) so_far ∙ ap (λ b. topic_batch (messages_of txn (contents_of (take i bodies))) ++ b ∷ []) one
+      ∙ sym (ap topic_batch messages-more ∙ map-append (topic_record 1) (messages_of txn (contents_of (take i bodies))) (message_entry txn body.bytes ∷ []))
 
   pub entries_more : map topic_entry_of (contents_of batch) ≡ messages_of txn (contents_of (take i bodies)) → topic_entry_of bytes.bytes ≡ message_entry txn body.bytes
       → map topic_entry_of (contents_of more) ≡ messages_of txn (contents_of (take (i + 1) bodies))

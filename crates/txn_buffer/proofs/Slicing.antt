@@ -5,7 +5,7 @@ use Rattle.std.proofs.lemmas.List.{append-nil}
 use Rattle.std.specs.Prelude.{nat_lt}
 use Rattle.txn_base.specs.declared.messages.Message.{Message}
 use Rattle.txn_model.specs.Topic.{fitting}
-use Rattle.txn_buffer.specs.Reading.{rest_of, IsSpentWith, GoesOn, IsCut}
+use Rattle.txn_buffer.specs.Reading.{rest_of, IsSpentWith, ReadGoesOn, IsCut}
 
 -- one that doesn't fit
 none_left : (bytes spent n : ℕ) (ms : List Message) (m : Message) (more : List Message) → IsSpentWith ms bytes spent (length m.body) None → rest_of bytes spent (suc n) ms (m ∷ more) ≡ []
@@ -33,7 +33,7 @@ module _ (m : Message) (before after : List Message) (bytes spent left size : �
         rest = λ more. ap (λ n. rest_of bytes spent n before (m ∷ more)) one_less ∙ none_left bytes spent (left - 1) before m more (subst (λ n. IsSpentWith before bytes spent n None) sized h);
       }
 
-  pub goes_on : (total : ℕ) → IsSpentWith before bytes spent size (Some total) → after ≡ before ++ m ∷ [] → nat_lt 0 (left - 1) ≡ true → GoesOn (Some m) before after bytes spent left total (left - 1)
+  pub goes_on : (total : ℕ) → IsSpentWith before bytes spent size (Some total) → after ≡ before ++ m ∷ [] → nat_lt 0 (left - 1) ≡ true → ReadGoesOn (Some m) before after bytes spent left total (left - 1)
   goes_on total h pushed more_left =
       let one_less : left ≡ suc (left - 1) = omega (arith, some) in
       record {

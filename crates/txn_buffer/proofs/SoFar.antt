@@ -11,8 +11,8 @@ use Rattle.txn_base.specs.declared.limits.Limits.{Limits}
 use Rattle.txn_model.specs.Skeletons.{topic_skeletons}
 use Rattle.txn_model.specs.Topic.{shows, limit_of, read_slice, fitting, first_and_fitting}
 use Rattle.txn_model.proofs.Laws.Topics.{visible_from}
-use Rattle.txn_buffer.specs.Reading.{rest_of, GoesOn, IsCut, visible_later}
-use Rattle.txn_buffer.proofs.Visible.{all_later, begins, ends, nothing_later, one_more, take_nothing, empty_slice, whole_slice}
+use Rattle.txn_buffer.specs.Reading.{rest_of, ReadGoesOn, IsCut, visible_later}
+use Rattle.txn_buffer.proofs.Visible.{all_later, visible_begins, ends, nothing_later, one_more, take_nothing, empty_slice, whole_slice}
 
 -- the visible messages of the entries from a place on
 abbrev coming : List TopicEntry → ℕ → List Message
@@ -27,7 +27,7 @@ pub record IsSoFar (limits : Limits) (front : List TopicEntry) (first most bytes
 pub so_far_starts : (limits : Limits) (front : List TopicEntry) (first most : ℕ) → first ≤ limit_of front → IsSoFar limits front first most limits.read_bytes 0 (min most limits.read_messages) [] first
 so_far_starts limits front first most h = record {
   rest = whole_slice limits front first most h;
-  given = sym (begins front first h);
+  given = sym (visible_begins front first h);
 }
 
 module _ (limits : Limits) (front : List TopicEntry) (first most bytes spent left : ℕ) (messages : List Message) (place : ℕ) (so_far : IsSoFar limits front first most bytes spent left messages place) where
@@ -35,7 +35,7 @@ module _ (limits : Limits) (front : List TopicEntry) (first most bytes spent lef
     split : coming front place ≡ option_to_list found ++ coming front (suc place)
     split = one_more front place d below ∙ ap (λ o. option_to_list o ++ coming front (suc place)) (sym is)
 
-    pub so_far_goes_on : (after : List Message) (spent_after left_after : ℕ) → GoesOn found messages after bytes spent left spent_after left_after → IsSoFar limits front first most bytes spent_after left_after after (place + 1)
+    pub so_far_goes_on : (after : List Message) (spent_after left_after : ℕ) → ReadGoesOn found messages after bytes spent left spent_after left_after → IsSoFar limits front first most bytes spent_after left_after after (place + 1)
     so_far_goes_on after spent_after left_after goes =
         subst (IsSoFar limits front first most bytes spent_after left_after after) (sym (add-one place))
         (record {

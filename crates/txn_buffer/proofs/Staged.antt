@@ -13,7 +13,7 @@ use Rattle.txn_model.specs.Skeletons.{topic_skeleton, topic_skeletons}
 use Rattle.txn_model.specs.Topic.{marks, marker_of, part_allows, TopicLawful}
 use Rattle.txn_model.proofs.Laws.Lists.{first_of-append, all_follow-append}
 use Rattle.txn_model.proofs.Laws.Tests.{and_l, and_r}
-use Rattle.txn_records.specs.Topics.{marker_of as marker_entry}
+use Rattle.txn_records.specs.Topics.{marker_entry}
 use Rattle.txn_buffer.proofs.Tables.{no_true, skeletons-push}
 
 marker-append : (xs ys : List TopicEntry) (x : TxnId) → marker_of (topic_skeletons (xs ++ ys)) x ≡ option_or (marker_of (topic_skeletons xs) x) (marker_of (topic_skeletons ys) x)

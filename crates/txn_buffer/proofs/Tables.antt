@@ -21,7 +21,7 @@ use Rattle.txn_model.specs.Words.{all_follow}
 use Rattle.txn_model.specs.Skeletons.{same_txn, topic_skeleton, topic_skeletons}
 use Rattle.txn_model.specs.Topic.{marks, marker_of, part_allows, limit_from, limit_of}
 use Rattle.txn_model.proofs.Laws.Lists.{first_of-append, all_follow-append}
-use Rattle.txn_buffer.specs.Front.{inside_from, waiting, pending_of, first_place, key_of, same_key, FrontView, IsTable}
+use Rattle.txn_buffer.specs.Front.{inside_from, waiting, pending_of, first_place, key_of, same_key, FrontView, IsFrontTable}
 
 pub no_true : false ≡ true → ⊥
 no_true h = cc
@@ -123,12 +123,12 @@ same_markers : (all : List CoreEntry) (e : CoreEntry) → ((x : TxnId) → marks
 same_markers all e none x = marker-push all e x ∙ ap (option_or (marker_of all x)) (none x) ∙ or_none (marker_of all x)
 
 -- the tables of a list of one entry more
-grown : (es es' : List TopicEntry) (e : TopicEntry) (count : ℕ) (f g : TxnId → Option Decision) (ps qs : List (ℕ × TxnId)) → es' ≡ es ++ e ∷ [] → IsTable es count f ps
+grown : (es es' : List TopicEntry) (e : TopicEntry) (count : ℕ) (f g : TxnId → Option Decision) (ps qs : List (ℕ × TxnId)) → es' ≡ es ++ e ∷ [] → IsFrontTable es count f ps
     → part_allows (topic_skeletons es) (topic_skeleton e) ≡ true → IsTopicEntry e
     → ((x : TxnId) → g x ≡ marker_of (topic_skeletons es ++ topic_skeleton e ∷ []) x)
     → qs ≡ pending_of (topic_skeletons es ++ topic_skeleton e ∷ [])
-    → IsTable es' (count + 1) g qs
-grown es es' e count f g ps qs more is allowed fits marked pending = subst (λ l. IsTable l (count + 1) g qs) (sym more) (record {
+    → IsFrontTable es' (count + 1) g qs
+grown es es' e count f g ps qs more is allowed fits marked pending = subst (λ l. IsFrontTable l (count + 1) g qs) (sym more) (record {
   count_is = omega (arith, is.count_is, length-append es (e ∷ []));
   marked = λ x. marked x ∙ ap (λ l. marker_of l x) (sym (skeletons-push es e));
   pending_is = pending ∙ ap pending_of (sym (skeletons-push es e));
@@ -137,8 +137,8 @@ grown es es' e count f g ps qs more is allowed fits marked pending = subst (λ l
 })
 
 -- a plain message
-pub plain_grown : (es es' : List TopicEntry) (e : TopicEntry) (count : ℕ) (f : TxnId → Option Decision) (ps : List (ℕ × TxnId)) → es' ≡ es ++ e ∷ [] → IsTable es count f ps
-    → topic_skeleton e ≡ core.Plain → IsTopicEntry e → IsTable es' (count + 1) f ps
+pub plain_grown : (es es' : List TopicEntry) (e : TopicEntry) (count : ℕ) (f : TxnId → Option Decision) (ps : List (ℕ × TxnId)) → es' ≡ es ++ e ∷ [] → IsFrontTable es count f ps
+    → topic_skeleton e ≡ core.Plain → IsTopicEntry e → IsFrontTable es' (count + 1) f ps
 plain_grown es es' e count f ps more is kind fits =
     let all = topic_skeletons es in
     grown es es' e count f f ps ps more is (ap (part_allows all) kind) fits
@@ -155,8 +155,8 @@ none_is None h = refl
 none_is (Some d) h = absurd (no_true h)
 
 -- a message of a transaction
-pub opened_grown : (es es' : List TopicEntry) (e : TopicEntry) (x : TxnId) (count : ℕ) (f : TxnId → Option Decision) (ps qs : List (ℕ × TxnId)) → qs ≡ ps ++ (count, x) ∷ [] → es' ≡ es ++ e ∷ [] → IsTable es count f ps
-    → topic_skeleton e ≡ core.Inside x → part_allows (topic_skeletons es) (topic_skeleton e) ≡ true → IsTopicEntry e → IsTable es' (count + 1) f qs
+pub opened_grown : (es es' : List TopicEntry) (e : TopicEntry) (x : TxnId) (count : ℕ) (f : TxnId → Option Decision) (ps qs : List (ℕ × TxnId)) → qs ≡ ps ++ (count, x) ∷ [] → es' ≡ es ++ e ∷ [] → IsFrontTable es count f ps
+    → topic_skeleton e ≡ core.Inside x → part_allows (topic_skeletons es) (topic_skeleton e) ≡ true → IsTopicEntry e → IsFrontTable es' (count + 1) f qs
 opened_grown es es' e x count f ps qs pushed more is kind allowed fits =
     let all = topic_skeletons es in
     let open_still : marker_of all x ≡ None = none_is (marker_of all x) (ap (part_allows all) (sym kind) ∙ allowed) in
@@ -197,9 +197,9 @@ decided f x d y h =
     pick false g = sym (or_none (f y))
 
 -- a marker
-pub marker_grown : (es es' : List TopicEntry) (e : TopicEntry) (x : TxnId) (d : Decision) (count : ℕ) (f g : TxnId → Option Decision) (ps qs : List (ℕ × TxnId)) → qs ≡ waiting g ps → es' ≡ es ++ e ∷ [] → IsTable es count f ps
+pub marker_grown : (es es' : List TopicEntry) (e : TopicEntry) (x : TxnId) (d : Decision) (count : ℕ) (f g : TxnId → Option Decision) (ps qs : List (ℕ × TxnId)) → qs ≡ waiting g ps → es' ≡ es ++ e ∷ [] → IsFrontTable es count f ps
     → topic_skeleton e ≡ core.Marker x d → part_allows (topic_skeletons es) (topic_skeleton e) ≡ true → IsTopicEntry e
-    → ((y : TxnId) → g y ≡ cond (same_key (key_of x) (key_of y)) (Some d) (f y)) → IsTable es' (count + 1) g qs
+    → ((y : TxnId) → g y ≡ cond (same_key (key_of x) (key_of y)) (Some d) (f y)) → IsFrontTable es' (count + 1) g qs
 marker_grown es es' e x d count f g ps qs dropped more is kind allowed fits updates =
     let all = topic_skeletons es in
     let none_yet : f x ≡ None = is.marked x ∙ none_is (marker_of all x) (ap (part_allows all) (sym kind) ∙ allowed) in
@@ -217,7 +217,7 @@ marker_grown es es' e x d count f g ps qs dropped more is kind allowed fits upda
     none_before (Some c) p h = h
 
 -- no entries
-pub no_table : (count : ℕ) (f : TxnId → Option Decision) (ps : List (ℕ × TxnId)) → count ≡ 0 → ((x : TxnId) → f x ≡ None) → ps ≡ [] → IsTable [] count f ps
+pub no_table : (count : ℕ) (f : TxnId → Option Decision) (ps : List (ℕ × TxnId)) → count ≡ 0 → ((x : TxnId) → f x ≡ None) → ps ≡ [] → IsFrontTable [] count f ps
 no_table count f ps zero none nothing = record {
   count_is = zero;
   marked = none;
@@ -244,7 +244,7 @@ pub none_first : (ps : List (ℕ × TxnId)) (end : ℕ) → (0 < length ps → �
 none_first [] end none = refl
 none_first (q ∷ ps) end none = absurd (none (omega arith))
 
-pub limit_of_queue : (entries : List TopicEntry) (count : ℕ) (decisions : TxnId → Option Decision) (ps : List (ℕ × TxnId)) (n : ℕ) → IsTable entries count decisions ps → n ≡ first_place ps count → n ≡ limit_of entries
+pub limit_of_queue : (entries : List TopicEntry) (count : ℕ) (decisions : TxnId → Option Decision) (ps : List (ℕ × TxnId)) (n : ℕ) → IsFrontTable entries count decisions ps → n ≡ first_place ps count → n ≡ limit_of entries
 limit_of_queue entries count decisions ps n is first =
     first ∙ ap (λ l. first_place l count) is.pending_is ∙ ap (first_place (pending_of (topic_skeletons entries))) is.count_is ∙ sym (limit_is_first entries)
 

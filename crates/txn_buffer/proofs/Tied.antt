@@ -7,10 +7,10 @@ use Rattle.txn_base.specs.declared.entry.TopicEntry.{TopicEntry}
 use Rattle.txn_base.specs.Decoded.{topic_entry_of, topic_entries}
 use Rattle.txn_base.specs.Frames.{Record, Batch, records}
 use Rattle.txn_model.specs.Topic.{TopicLawful}
-use Rattle.txn_buffer.specs.Mending.{IsBad, IsFirstBad, IsEntryAt, IsSettledFrom, with_front}
+use Rattle.txn_buffer.specs.Mending.{IsBad, IsFirstBadRecord, IsEntryAt, MayHaveSettled, with_front}
 use Rattle.txn_base.specs.Content.{LedgerContent, Standing, settled, looked_at, in_flight, with_flight}
 use Rattle.txn_buffer.specs.Record.{IsInGrammar}
-use Rattle.txn_buffer.specs.View.{TopicView, IsFrontOf, total_of}
+use Rattle.txn_buffer.specs.View.{TopicView, IsFrontOf, topic_total}
 use Rattle.txn_buffer.proofs.Tables.{records-append}
 
 -- The topic, over this content.
@@ -21,7 +21,7 @@ records-push : (batches : List Batch) (batch : Batch) → records (batches ++ ba
 records-push batches batch = records-append batches (batch ∷ []) ∙ ap (λ (l : List Record). records batches ++ l) (append-nil batch)
 
 -- a batch more in both
-pub tied_more : (v w : TopicView) (batch : Batch) → length v.front ≡ total_of v → w.front ≡ v.front ++ map topic_entry_of batch → w.content.batches ≡ v.content.batches ++ batch ∷ []
+pub tied_more : (v w : TopicView) (batch : Batch) → length v.front ≡ topic_total v → w.front ≡ v.front ++ map topic_entry_of batch → w.content.batches ≡ v.content.batches ++ batch ∷ []
     → All IsInGrammar batch → IsFrontOf v → IsFrontOf w
 tied_more v w batch whole front batches grammar tied =
     let all = topic_entries v.content.batches in
@@ -45,14 +45,14 @@ nothing_tied w none = record {
 }
 
 -- the record at a place of the front is in the grammar
-pub tied_record : (v : TopicView) (place : ℕ) (bytes : Record) → IsFrontOf v → place < length v.front → length v.front ≤ total_of v → bytes ≡ get_or (records v.content.batches) place bytes → IsInGrammar bytes
+pub tied_record : (v : TopicView) (place : ℕ) (bytes : Record) → IsFrontOf v → place < length v.front → length v.front ≤ topic_total v → bytes ≡ get_or (records v.content.batches) place bytes → IsInGrammar bytes
 tied_record v place bytes tied below within is =
     let rs = records v.content.batches in
     let taken : get_or (take (length v.front) rs) place bytes ≡ bytes = get_or-take (length v.front) rs place bytes below ∙ sym is in
     subst IsInGrammar taken (tied.grammar place bytes (omega (arith, below, within, length-take (length v.front) rs)))
 
 -- an entry more in the front, which is that of the next record
-pub tied_one : (v : TopicView) (front : List TopicEntry) (e : TopicEntry) → length front < total_of v → IsEntryAt v.content.batches (length front) e → IsFrontOf (with_front v front) → IsFrontOf (with_front v (front ++ e ∷ []))
+pub tied_one : (v : TopicView) (front : List TopicEntry) (e : TopicEntry) → length front < topic_total v → IsEntryAt v.content.batches (length front) e → IsFrontOf (with_front v front) → IsFrontOf (with_front v (front ++ e ∷ []))
 tied_one v front e within at tied =
     let rs = records v.content.batches in let n = length front in
     let longer : length (front ++ e ∷ []) ≡ n + 1 = omega (arith, length-append front (e ∷ [])) in
@@ -67,7 +67,7 @@ tied_one v front e within at tied =
     }
 
 -- a bad record behind a front that is tied
-pub first_bad_at : (v : TopicView) (front : List TopicEntry) (place : ℕ) → length front ≡ place → TopicLawful front → IsFrontOf (with_front v front) → IsBad front (get_or (records v.content.batches) place []) → IsFirstBad v.content.batches place
+pub first_bad_at : (v : TopicView) (front : List TopicEntry) (place : ℕ) → length front ≡ place → TopicLawful front → IsFrontOf (with_front v front) → IsBad front (get_or (records v.content.batches) place []) → IsFirstBadRecord v.content.batches place
 first_bad_at v front place at lawful tied bad =
     let are : front ≡ take place (topic_entries v.content.batches) = tied.entries ∙ ap (λ n. take n (topic_entries v.content.batches)) at in
     record {
@@ -84,7 +84,7 @@ tied_same v w front content tied = record {
 }
 
 -- batches behind those of the front
-tied_longer : (v : TopicView) (k : LedgerContent) (more : List Batch) → length v.front ≤ total_of v → k.batches ≡ v.content.batches ++ more → IsFrontOf v → IsFrontOf (with_content v k)
+tied_longer : (v : TopicView) (k : LedgerContent) (more : List Batch) → length v.front ≤ topic_total v → k.batches ≡ v.content.batches ++ more → IsFrontOf v → IsFrontOf (with_content v k)
 tied_longer v k more within batches tied =
     let n = length v.front in
     let longer : records k.batches ≡ records v.content.batches ++ records more = ap records batches ∙ records-append v.content.batches more in
@@ -98,7 +98,7 @@ tied_longer v k more within batches tied =
     }
 
 -- after what was in flight was settled
-pub tied_settled : (v : TopicView) (k : LedgerContent) → length v.front ≤ total_of v → IsSettledFrom v.content k → IsFrontOf v → IsFrontOf (with_content v k)
+pub tied_settled : (v : TopicView) (k : LedgerContent) → length v.front ≤ topic_total v → MayHaveSettled v.content k → IsFrontOf v → IsFrontOf (with_content v k)
 tied_settled v k within from tied = ⊎_elim (λ same. stays k (ap (λ (l : LedgerContent). l.batches) same))
     (λ flight. ⊎_elim (λ is_kept. kept_is v.content.standing (ap (λ (l : LedgerContent). l.batches) is_kept)) (λ is_dropped. stays k (ap (λ (l : LedgerContent). l.batches) is_dropped)) flight.1) from
   where

@@ -141,8 +141,8 @@ limit_within es = let h = limit_below (topic_skeletons es) 0 (topic_skeletons es
     lengths [] = refl
     lengths (e ∷ es) = ap suc (lengths es)
 
-pub begins : (es : List TopicEntry) (first : ℕ) → first ≤ limit_of es → visible_later es first ≡ visible_from (topic_skeletons es) first (drop first es)
-begins es first h =
+pub visible_begins : (es : List TopicEntry) (first : ℕ) → first ≤ limit_of es → visible_later es first ≡ visible_from (topic_skeletons es) first (drop first es)
+visible_begins es first h =
     ap (filter (λ m. nat_le first m.place)) (visible_fused es) ∙ ap (λ n. filter (λ m. nat_le n m.place) (visible_from (topic_skeletons es) 0 es)) (omega arith) ∙ later_are (topic_skeletons es) 0 first es (omega (arith, h)) ∙ ap (λ n. visible_from (topic_skeletons es) n (drop first es)) (omega arith)
 
 pub ends : (es : List TopicEntry) (place : ℕ) → limit_of es ≡ place → visible_from (topic_skeletons es) place (drop place es) ≡ []
@@ -170,4 +170,4 @@ empty_slice limits es first max h =
 
 pub whole_slice : (limits : Limits) (es : List TopicEntry) (first max : ℕ) → first ≤ limit_of es
     → rest_of limits.read_bytes 0 (min max limits.read_messages) [] (visible_from (topic_skeletons es) first (drop first es)) ≡ read_slice limits es first max
-whole_slice limits es first max h = ap (cut_short limits max) (sym (begins es first h))
+whole_slice limits es first max h = ap (cut_short limits max) (sym (visible_begins es first h))

@@ -45,7 +45,7 @@ abbrev pub same_key : ℕ × ℕ → ℕ × ℕ → Bool
 same_key a b = (a.0 == b.0) && (a.1 == b.1)
 
 -- What a front keeps: how many entries there are, the decision of each marker, and the messages at or past the limit.
-pub record IsTable (entries : List TopicEntry) (count : ℕ) (decisions : TxnId → Option Decision) (pending : List (ℕ × TxnId)) : Type 0 where
+pub record IsFrontTable (entries : List TopicEntry) (count : ℕ) (decisions : TxnId → Option Decision) (pending : List (ℕ × TxnId)) : Type 0 where
   pub count_is : count ≡ length entries
   pub marked : (x : TxnId) → decisions x ≡ marker_of (topic_skeletons entries) x
   pub pending_is : pending ≡ pending_of (topic_skeletons entries)

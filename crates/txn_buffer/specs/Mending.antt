@@ -8,31 +8,31 @@ use Rattle.txn_base.specs.Frames.{Record, Batch, records}
 use Rattle.txn_model.specs.Skeletons.{topic_skeleton, topic_skeletons}
 use Rattle.txn_model.specs.Topic.{part_allows, TopicLawful}
 use Rattle.txn_buffer.specs.Record.{IsInGrammar, IsOutside}
-use Rattle.txn_buffer.specs.View.{TopicView, total_of}
+use Rattle.txn_buffer.specs.View.{TopicView, topic_total}
 
 -- The content is as it was, or what was in flight was settled.
-abbrev pub IsSettledFrom : LedgerContent → LedgerContent → Type 0
-IsSettledFrom before after = (after ≡ before) ⊎ (IsInFlight before.standing × ((after ≡ kept before) ⊎ (after ≡ dropped before)))
+abbrev pub MayHaveSettled : LedgerContent → LedgerContent → Type 0
+MayHaveSettled before after = (after ≡ before) ⊎ (IsInFlight before.standing × ((after ≡ kept before) ⊎ (after ≡ dropped before)))
 
 -- With a list of so many records, a step goes over as many as the bound, or over all that are left.
 abbrev pub step_of : TopicView → ℕ → ℕ
 step_of v total = min v.limits.step (total - length v.front)
 
 -- The list is settled, the front has grown by the records of the step, and the topic is whole exactly where none is left.
-pub record IsStepOf (before after : TopicView) (told : Progress) : Type 0 where
+pub record Mends (before after : TopicView) (told : Progress) : Type 0 where
   pub settled_now : after.content.standing ≡ settled
   pub more : List TopicEntry
   pub front : after.front ≡ before.front ++ more
-  pub count : length more ≡ step_of before (total_of after)
+  pub count : length more ≡ step_of before (topic_total after)
   pub at : told.at ≡ length after.front
-  pub total : told.total ≡ total_of after
+  pub total : told.total ≡ topic_total after
   pub whole : after.whole ≡ (told.at == told.total)
   pub part : after.part ≡ before.part
   pub reserved : after.reserved ≡ before.reserved
   pub limits : after.limits ≡ before.limits
 
 -- A refused step leaves all but the content.
-pub record IsUnchangedBut (before after : TopicView) : Type 0 where
+pub record IsRefusedStep (before after : TopicView) : Type 0 where
   pub front : after.front ≡ before.front
   pub part : after.part ≡ before.part
   pub whole : after.whole ≡ before.whole
@@ -49,7 +49,7 @@ abbrev pub IsBad : List TopicEntry → Record → Type 0
 IsBad before bytes = IsOutside bytes ⊎ (part_allows (topic_skeletons before) (topic_skeleton (topic_entry_of bytes)) ≡ false)
 
 -- The record at this place is the first bad one.
-pub record IsFirstBad (batches : List Batch) (place : ℕ) : Type 0 where
+pub record IsFirstBadRecord (batches : List Batch) (place : ℕ) : Type 0 where
   pub bad : IsBad (take place (topic_entries batches)) (slice_index_or (records batches) place [])
   pub lawful : TopicLawful (take place (topic_entries batches))
   pub grammar : All IsInGrammar (take place (records batches))

@@ -20,7 +20,7 @@ IsSpentWith (m ∷ ms) bytes spent size None = bytes < spent + size
 IsSpentWith (m ∷ ms) bytes spent size (Some total) = (total ≡ spent + size) × (total ≤ bytes)
 
 -- The message was given, if there is one, and more may be.
-pub record GoesOn (found : Option Message) (before after : List Message) (bytes spent left spent_after left_after : ℕ) : Type 0 where
+pub record ReadGoesOn (found : Option Message) (before after : List Message) (bytes spent left spent_after left_after : ℕ) : Type 0 where
   pub given : after ≡ before ++ option_to_list found
   pub rest : (more : List Message) → rest_of bytes spent left before (option_to_list found ++ more) ≡ option_to_list found ++ rest_of bytes spent_after left_after after more
   pub left_some : 1 ≤ left_after

@@ -16,7 +16,7 @@ marker_size = 18
 
 -- The front is at most as long as the ledger, and where the topic is whole as long and nothing in flight; and for each end
 -- that is reserved there is room for its record, its frame and its marker.
-pub record IsTopic (content : LedgerContent) (front : FrontView) (limits : Limits) (whole : Bool) (reserved spare room : ℕ) (marker : Roomy) : Type 0 where
+pub record TopicInvariant (content : LedgerContent) (front : FrontView) (limits : Limits) (whole : Bool) (reserved spare room : ℕ) (marker : Roomy) : Type 0 where
   pub in_range : InRange limits
   pub within : length front.entries ≤ length (records content.batches)
   pub count : whole ≡ true → length front.entries ≡ length (records content.batches)

@@ -21,12 +21,12 @@ pub record TopicView : Type 0 where
   pub limits : Limits
 
 -- How many records its ledger has, without those in flight.
-abbrev pub total_of : TopicView → ℕ
-total_of v = length (records v.content.batches)
+abbrev pub topic_total : TopicView → ℕ
+topic_total v = length (records v.content.batches)
 
 -- Whole, or how many of the records were replayed.
 abbrev pub state_of : TopicView → PartState
-state_of v = if v.whole then Whole else Mending (length v.front) (total_of v)
+state_of v = if v.whole then Whole else Mending (length v.front) (topic_total v)
 
 -- Where the topic is what its ledger holds: the front is the entries of the first records, each of which is in the grammar.
 pub record IsFrontOf (v : TopicView) : Type 0 where
@@ -34,15 +34,15 @@ pub record IsFrontOf (v : TopicView) : Type 0 where
   pub grammar : All IsInGrammar (take (length v.front) (records v.content.batches))
 
 -- The records of these entries, as one batch.
-abbrev pub batch_of : List TopicEntry → Batch
-batch_of entries = map (topic_record 1) entries
+abbrev pub topic_batch : List TopicEntry → Batch
+topic_batch entries = map (topic_record 1) entries
 
 -- The topic with these entries more, in its ledger and in its front, and room reserved for so many ends.
 abbrev pub with_entries : TopicView → List TopicEntry → ℕ → TopicView
 with_entries v entries ends =
-    record { content = landed v.content (batch_of entries); front = v.front ++ entries; part = v.part; whole = v.whole; reserved = ends; limits = v.limits }
+    record { content = landed v.content (topic_batch entries); front = v.front ++ entries; part = v.part; whole = v.whole; reserved = ends; limits = v.limits }
 
 -- The topic whose append of these entries failed: they are in flight, and its state was thrown away.
-abbrev pub fenced : TopicView → List TopicEntry → TopicView
-fenced v entries =
-    record { content = begun v.content (batch_of entries); front = []; part = v.part; whole = false; reserved = 0; limits = v.limits }
+abbrev pub with_failed_entries : TopicView → List TopicEntry → TopicView
+with_failed_entries v entries =
+    record { content = begun v.content (topic_batch entries); front = []; part = v.part; whole = false; reserved = 0; limits = v.limits }

@@ -7,7 +7,7 @@ ghost use Rattle.txn_base.specs.Records.{IsBody, topic_record};
 ghost use Rattle.txn_model.specs.Entries.{message_entry};
 ghost use Rattle.txn_buffer.specs.Adding.{messages_of, IsPublished};
 ghost use Rattle.txn_buffer.specs.Record.{IsInGrammar};
-ghost use Rattle.txn_buffer.specs.View.{batch_of};
+ghost use Rattle.txn_buffer.specs.View.{topic_batch};
 
 use std::alloc::{AllocError, Global};
 use txn_base::{Bytes, TxnId};
@@ -33,7 +33,7 @@ pub fn records_of(
     bodies: &[Bytes],
 ) -> Result<Vec<Bytes>, AllocError>
     requires { All IsPublished (contents_of bodies.now) }
-    ensures batch { IfOk result (λ batch. contents_of batch.items ≡ batch_of (messages_of txn (contents_of bodies.now))) }
+    ensures batch { IfOk result (λ batch. contents_of batch.items ≡ topic_batch (messages_of txn (contents_of bodies.now))) }
     ensures entries { IfOk result (λ batch. map topic_entry_of (contents_of batch.items) ≡ messages_of txn (contents_of bodies.now)) }
     ensures grammar { IfOk result (λ batch. All IsInGrammar (contents_of batch.items)) }
 {

@@ -36,13 +36,13 @@ impl Model for Front {
     ghost use Rattle.std.specs.VecDeque.{deque_len, deque_capacity};
     ghost use Rattle.indexmap.specs.IndexMap.{get, spare};
     ghost use Rattle.txn_base.specs.Decoded.{topic_entries};
-    ghost use Rattle.txn_buffer.specs.Front.{FrontView, IsTable, key_of, same_key};
+    ghost use Rattle.txn_buffer.specs.Front.{FrontView, IsFrontTable, key_of, same_key};
 
     ghost Value = { FrontView };
 
     ghost view = { λ f. record { entries = topic_entries f.carrier.content.batches; opens = deque_capacity f.pending - deque_len f.pending; ends = spare f.decisions } };
 
-    ghost invariant = { λ f. IsTable (topic_entries f.carrier.content.batches) f.count (λ x. get same_key f.decisions (key_of x)) f.pending.items };
+    ghost invariant = { λ f. IsFrontTable (topic_entries f.carrier.content.batches) f.count (λ x. get same_key f.decisions (key_of x)) f.pending.items };
 }
 
 impl Front {

@@ -1,6 +1,6 @@
 //! A slice of messages as it grows, cut by the bounds on a read.
 ghost use Rattle.std.specs.Prelude.{◌≡◌, ◌≤◌, [], true, false, min, IfOk};
-ghost use Rattle.txn_buffer.specs.Reading.{GoesOn, IsCut, IsSpentWith};
+ghost use Rattle.txn_buffer.specs.Reading.{ReadGoesOn, IsCut, IsSpentWith};
 
 use std::alloc::{AllocError, Global};
 use txn_base::{Limits, Message, Messages};
@@ -33,7 +33,7 @@ impl Slice {
     pub fn give(&mut self, message: Option<Message>) -> Result<bool, AllocError>
         requires { 1 ≤ self.old.left }
         ensures bytes { self.new.bytes ≡ self.old.bytes }
-        ensures goes_on { IfOk result (λ more. more ≡ true → GoesOn message self.old.messages self.new.messages self.old.bytes self.old.spent self.old.left self.new.spent self.new.left) }
+        ensures goes_on { IfOk result (λ more. more ≡ true → ReadGoesOn message self.old.messages self.new.messages self.old.bytes self.old.spent self.old.left self.new.spent self.new.left) }
         ensures cut { IfOk result (λ more. more ≡ false → IsCut message self.old.messages self.new.messages self.old.bytes self.old.spent self.old.left) }
     {
         let Some(message) = message else {

@@ -5,7 +5,7 @@ ghost use Rattle.txn_base.specs.Limits.{InRange};
 ghost use Rattle.txn_base.specs.Records.{IsTopicEntry};
 ghost use Rattle.txn_model.specs.Skeletons.{topic_skeletons};
 ghost use Rattle.txn_model.specs.Topic.{marker_of, limit_of, TopicLawful};
-ghost use Rattle.txn_buffer.specs.View.{state_of, total_of};
+ghost use Rattle.txn_buffer.specs.View.{state_of, topic_total};
 
 mod finish;
 mod mend;
@@ -36,13 +36,13 @@ pub struct Topic<R: RecordLog> {
 
 impl<R: RecordLog> Model for Topic<R> {
     ghost use Rattle.txn_buffer.specs.View.{TopicView};
-    ghost use Rattle.txn_buffer.specs.Topic.{IsTopic};
+    ghost use Rattle.txn_buffer.specs.Topic.{TopicInvariant};
 
     ghost Value = { TopicView };
 
     ghost view = { λ t. record { content = R.content t.log; front = t.front.entries; part = t.part; whole = t.whole; reserved = t.reserved; limits = t.limits } };
 
-    ghost invariant = { λ t. IsTopic (R.content t.log) t.front t.limits t.whole t.reserved (R.spare t.log) (R.room t.log) t.marker };
+    ghost invariant = { λ t. TopicInvariant (R.content t.log) t.front t.limits t.whole t.reserved (R.spare t.log) (R.room t.log) t.marker };
 }
 
 impl<R: RecordLog> Topic<R> {
@@ -68,8 +68,8 @@ impl<R: RecordLog> Topic<R> {
         ensures value { result ≡ state_of self.now }
         ensures lawful { TopicLawful self.now.front }
         ensures entries { All IsTopicEntry self.now.front }
-        ensures within { length self.now.front ≤ total_of self.now }
-        ensures whole { IsTrue self.now.whole → length self.now.front ≡ total_of self.now }
+        ensures within { length self.now.front ≤ topic_total self.now }
+        ensures whole { IsTrue self.now.whole → length self.now.front ≡ topic_total self.now }
         ensures settled { IsTrue self.now.whole → self.now.content.standing ≡ settled }
         ensures in_range { InRange self.now.limits }
     {
@@ -98,7 +98,7 @@ impl<R: RecordLog> Topic<R> {
 
     /// The number of records in its ledger.
     pub fn len(&self) -> u64
-        ensures { result ≡ total_of self.now }
+        ensures { result ≡ topic_total self.now }
     {
         self.log.len()
     }
@@ -106,7 +106,7 @@ impl<R: RecordLog> Topic<R> {
     /// The number of entries of its front: all of them where it is whole.
     pub fn front(&self) -> u64
         ensures value { result ≡ length self.now.front }
-        ensures whole { IsTrue self.now.whole → result ≡ total_of self.now }
+        ensures whole { IsTrue self.now.whole → result ≡ topic_total self.now }
     {
         self.front.len()
     }

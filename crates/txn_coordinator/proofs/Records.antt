@@ -62,8 +62,8 @@ pub coord_record-most : (e : CoordEntry) → length (coord_record e) ≤ 26
 coord_record-most e = omega (arith, length-coord_record e, (record_size-most e).1)
 
 -- the batch of one record
-pub one_record : (e : CoordEntry) → IsBatch (coord_record e ∷ [])
-one_record e = record {
+pub one_is_batch : (e : CoordEntry) → IsBatch (coord_record e ∷ [])
+one_is_batch e = record {
   some = omega arith;
   few = omega arith;
   each = λ k d h. let z : k ≡ 0 = omega (arith, h) in subst (λ (j : ℕ). IsRecord (get_or (coord_record e ∷ []) j d)) (sym z)

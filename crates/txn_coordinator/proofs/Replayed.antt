@@ -15,7 +15,7 @@ use Rattle.txn_base.specs.Records.{IsCoordEntry, IsCoordRecord}
 use Rattle.txn_base.specs.Decoded.{coord_entry_of, coord_entries}
 use Rattle.txn_model.specs.Skeletons.{coord_skeleton, coord_skeletons}
 use Rattle.txn_model.specs.Coord.{coord_allows, CoordLawful, status_of, in_parts, is_open}
-use Rattle.txn_coordinator.specs.Mending.{record_at, AreRecordsFrom, AreRecordsTo, AreInGrammar, AreReplayed, IsBadRecord}
+use Rattle.txn_coordinator.specs.Mending.{record_in, AreRecordsFrom, AreRecordsTo, AreInGrammar, AreReplayed, IsFirstBadRecord}
 use Rattle.txn_coordinator.specs.Table.{AreEntries}
 use Rattle.txn_coordinator.proofs.Records.{coord_back}
 use Rattle.txn_coordinator.proofs.Rows.{lawful_more, entries_more}
@@ -27,20 +27,20 @@ decoded bytes e is = ap coord_entry_of is.bytes_are ∙ coord_back e is.fits
 pub entries_next : (front xs : List CoordEntry) (e : CoordEntry) → AreEntries (front ++ xs) → IsCoordEntry e → coord_allows 62 (coord_skeletons (front ++ xs)) (coord_skeleton e) ≡ true → AreEntries (front ++ (xs ++ e ∷ []))
 entries_next front xs e are fits h = subst AreEntries (append_assoc front xs (e ∷ [])) (entries_more (front ++ xs) e are fits h)
 
-pub read_more : (content : LedgerContent) (at place : ℕ) (xs : List CoordEntry) (e : CoordEntry) → length xs + at ≡ place → AreRecordsFrom content at xs → IsCoordRecord (record_at content place) e → AreRecordsFrom content at (xs ++ e ∷ [])
+pub read_more : (content : LedgerContent) (at place : ℕ) (xs : List CoordEntry) (e : CoordEntry) → length xs + at ≡ place → AreRecordsFrom content at xs → IsCoordRecord (record_in content place) e → AreRecordsFrom content at (xs ++ e ∷ [])
 read_more content at place xs e count are is = λ k d lt. ⊎_elim
-    (λ before. subst (λ (f : CoordEntry). IsCoordRecord (record_at content (at + k)) f) (sym (get_or_append_left xs (e ∷ []) d k before)) (are k d before))
+    (λ before. subst (λ (f : CoordEntry). IsCoordRecord (record_in content (at + k)) f) (sym (get_or_append_left xs (e ∷ []) d k before)) (are k d before))
     (λ past.
     let i : k ≡ length xs = omega (arith, past, lt, length-append xs (e ∷ [])) in
     let p : place ≡ at + k = omega (arith, count, i) in
-    subst (λ (j : ℕ). IsCoordRecord (record_at content (at + k)) (get_or (xs ++ e ∷ []) j d)) (sym i)
-    (subst (λ (f : CoordEntry). IsCoordRecord (record_at content (at + k)) f) (sym (get_or-append_seam xs e [] d)) (subst (λ (q : ℕ). IsCoordRecord (record_at content q) e) p is)))
+    subst (λ (j : ℕ). IsCoordRecord (record_in content (at + k)) (get_or (xs ++ e ∷ []) j d)) (sym i)
+    (subst (λ (f : CoordEntry). IsCoordRecord (record_in content (at + k)) f) (sym (get_or-append_seam xs e [] d)) (subst (λ (q : ℕ). IsCoordRecord (record_in content q) e) p is)))
     (cases_lt k (length xs))
 
-entry_at : (content : LedgerContent) (place : ℕ) (e : CoordEntry) → place < length (records content.batches) → IsCoordRecord (record_at content place) e → get_or (coord_entries content.batches) place (coord_entry_of []) ≡ e
-entry_at content place e lt is = get_or-map coord_entry_of (records content.batches) place [] ∙ decoded (record_at content place) e is
+entry_at : (content : LedgerContent) (place : ℕ) (e : CoordEntry) → place < length (records content.batches) → IsCoordRecord (record_in content place) e → get_or (coord_entries content.batches) place (coord_entry_of []) ≡ e
+entry_at content place e lt is = get_or-map coord_entry_of (records content.batches) place [] ∙ decoded (record_in content place) e is
 
-pub tied_next : (content : LedgerContent) (front xs : List CoordEntry) (e : CoordEntry) (place : ℕ) → place < length (records content.batches) → IsCoordRecord (record_at content place) e
+pub tied_next : (content : LedgerContent) (front xs : List CoordEntry) (e : CoordEntry) (place : ℕ) → place < length (records content.batches) → IsCoordRecord (record_in content place) e
     → front ++ xs ≡ take place (coord_entries content.batches) → front ++ (xs ++ e ∷ []) ≡ take (place + 1) (coord_entries content.batches)
 tied_next content front xs e place lt is so_far =
     sym (append_assoc front xs (e ∷ [])) ∙ ap (λ (l : List CoordEntry). l ++ e ∷ []) so_far
@@ -54,7 +54,7 @@ read_to content front xs grown at end at_is count same are = λ k e from to.
     let lt : k - at < length xs = omega (arith, from, to, count) in
     let entry : get_or grown (at + (k - at)) e ≡ get_or xs (k - at) e =
     ap (λ (l : List CoordEntry). get_or l (at + (k - at)) e) same ∙ ap (λ j. get_or (front ++ xs) (j + (k - at)) e) at_is ∙ get_or-append-add front xs (k - at) e in
-    subst (λ j. IsCoordRecord (record_at content j) (get_or grown j e)) there (subst (λ (f : CoordEntry). IsCoordRecord (record_at content (at + (k - at))) f) (sym entry) (are (k - at) e lt))
+    subst (λ j. IsCoordRecord (record_in content j) (get_or grown j e)) there (subst (λ (f : CoordEntry). IsCoordRecord (record_in content (at + (k - at))) f) (sym entry) (are (k - at) e lt))
 
 -- ---- With n named parts.
 
@@ -94,12 +94,12 @@ module _ (n : ℕ) (content : LedgerContent) (front xs : List CoordEntry) (place
   lawful_before : CoordLawful n (coord_skeletons (take place (coord_entries content.batches)))
   lawful_before = subst (λ (l : List CoordEntry). CoordLawful n (coord_skeletons l)) so_far are.lawful
 
-  module _ (e : CoordEntry) (is : IsCoordRecord (record_at content place) e) where
+  module _ (e : CoordEntry) (is : IsCoordRecord (record_in content place) e) where
     grammar_next : AreInGrammar content (place + 1)
     grammar_next =
         subst (All (λ r. IsCoordRecord r (coord_entry_of r))) (sym (take_more (records content.batches) place [] lt))
-        (All-push (λ r. IsCoordRecord r (coord_entry_of r)) (take place (records content.batches)) (record_at content place) grammar_before
-        (subst (IsCoordRecord (record_at content place)) (sym (decoded (record_at content place) e is)) is))
+        (All-push (λ r. IsCoordRecord r (coord_entry_of r)) (take place (records content.batches)) (record_in content place) grammar_before
+        (subst (IsCoordRecord (record_in content place)) (sym (decoded (record_in content place) e is)) is))
 
     pub replayed_next : coord_allows n (coord_skeletons (front ++ xs)) (coord_skeleton e) ≡ true → AreReplayed n content (front ++ (xs ++ e ∷ []))
     replayed_next h =
@@ -110,17 +110,17 @@ module _ (n : ℕ) (content : LedgerContent) (front xs : List CoordEntry) (place
           lawful = lawful_next n front xs e are.lawful h;
         }
 
-    pub bad_here : coord_allows n (coord_skeletons (front ++ xs)) (coord_skeleton e) ≡ false → IsBadRecord n content place
+    pub bad_here : coord_allows n (coord_skeletons (front ++ xs)) (coord_skeleton e) ≡ false → IsFirstBadRecord n content place
     bad_here refused = record {
       within = lt;
       grammar = grammar_before;
       before = lawful_before;
       bad = λ f at.
-          let same : f ≡ e = sym (decoded (record_at content place) f at) ∙ decoded (record_at content place) e is in
+          let same : f ≡ e = sym (decoded (record_in content place) f at) ∙ decoded (record_in content place) e is in
           ap (λ g. coord_allows n (coord_skeletons (take place (coord_entries content.batches))) (coord_skeleton g)) same ∙ ap (λ (l : List CoordEntry). coord_allows n (coord_skeletons l) (coord_skeleton e)) (sym so_far) ∙ refused;
     }
 
-  pub bad_outside : ((e : CoordEntry) → IsCoordRecord (record_at content place) e → ⊥) → IsBadRecord n content place
+  pub bad_outside : ((e : CoordEntry) → IsCoordRecord (record_in content place) e → ⊥) → IsFirstBadRecord n content place
   bad_outside none = record { within = lt; grammar = grammar_before; before = lawful_before; bad = λ e at. absurd (none e at) }
 
 -- what a test of an entry after those that were read tells

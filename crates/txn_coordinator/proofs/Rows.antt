@@ -74,8 +74,8 @@ apart_past n x y past zero lt = by_test (same_txn x y) refl
 pub begun_row : (rows : List Row) (c : List CoordEntry) (x : TxnId) → AreRows rows c → has_new (coord_skeletons c) x ≡ true → (x.most ≡ 0) × (x.least < length rows)
 begun_row rows c x are begun = ⊎_elim (λ at. at) (λ past. absurd (true≢false (sym begun ∙ (are.past x past).begun))) (has_row (length rows) x)
 
-pub row_of : (rows : List Row) (c : List CoordEntry) (x : TxnId) (row : Row) → AreRows rows c → x.most ≡ 0 → x.least < length rows → IsRow c x (get_or rows x.least row)
-row_of rows c x row are zero lt = subst (λ (y : TxnId). IsRow c y (get_or rows x.least row)) (txn_of_least x zero) (are.each x.least row lt)
+pub row_is : (rows : List Row) (c : List CoordEntry) (x : TxnId) (row : Row) → AreRows rows c → x.most ≡ 0 → x.least < length rows → IsRow c x (get_or rows x.least row)
+row_is rows c x row are zero lt = subst (λ (y : TxnId). IsRow c y (get_or rows x.least row)) (txn_of_least x zero) (are.each x.least row lt)
 
 count_push : (c : List CoordEntry) (e : CoordEntry) → count_new (coord_skeletons (c ++ e ∷ [])) ≡ count_new (coord_skeletons c) + count_by is_begin (coord_skeleton e ∷ [])
 count_push c e = ap count_new (skeletons-push c e) ∙ sum_by-append _ (coord_skeletons c) (coord_skeleton e ∷ [])
@@ -105,7 +105,7 @@ module _ (rows : List Row) (c : List CoordEntry) (are : AreRows rows c) where
           subst (λ (j : ℕ). IsRow (c ++ e ∷ []) (txn j) (get_or (set rows (txn_in e).least (row_after e (get_or rows (txn_in e).least old))) j row)) (sym i)
           (subst (λ (r : Row). IsRow (c ++ e ∷ []) (txn (txn_in e).least) r) (sym (get_or-set_same rows (txn_in e).least (row_after e (get_or rows (txn_in e).least old)) row lt))
           (subst (λ (y : TxnId). IsRow (c ++ e ∷ []) y (row_after e (get_or rows (txn_in e).least old))) (sym (txn_of_least (txn_in e) zero))
-          (row_goes_on c e (get_or rows (txn_in e).least old) may (row_of rows c (txn_in e) old are zero lt))))
+          (row_goes_on c e (get_or rows (txn_in e).least old) may (row_is rows c (txn_in e) old are zero lt))))
       at k row h false t =
           let differ : k ≢ (txn_in e).least = λ i. true≢false (sym (eq-eqb k (txn_in e).least i) ∙ t) in
           subst (λ (r : Row). IsRow (c ++ e ∷ []) (txn k) r) (sym (get_or-set_other rows (txn_in e).least k (row_after e (get_or rows (txn_in e).least old)) row differ))
@@ -146,7 +146,7 @@ rows_none = record {
 pub row_read : (c front : List CoordEntry) (rows read : List Row) (x : TxnId) (d : Row) → c ≡ front → read ≡ rows → AreRows rows c → x.most ≤ 0 → x.least < length read → IsRow front x (get_or read x.least d)
 row_read c front rows read x d e r are zero lt =
     subst (λ (f : List CoordEntry). IsRow f x (get_or read x.least d)) e
-    (subst (λ (l : List Row). IsRow c x (get_or l x.least d)) (sym r) (row_of rows c x d are (omega (arith, zero)) (omega (arith, lt, ap length r))))
+    (subst (λ (l : List Row). IsRow c x (get_or l x.least d)) (sym r) (row_is rows c x d are (omega (arith, zero)) (omega (arith, lt, ap length r))))
 
 -- ---- A table after one entry more.
 
@@ -213,7 +213,7 @@ module _ (rows : List Row) (low : ℕ) (c : List CoordEntry) (is : IsTable rows 
           below = λ k row lt.
               let differ : k ≢ (txn_in e).least = λ i. true≢false
               (sym (is.low_is.passed.below k row lt) ∙ ap (λ j. is_closed (Some (get_or rows j row).status)) i
-              ∙ turns_unclosed c e (get_or rows (txn_in e).least row) may h (row_of rows c (txn_in e) row is.are at.0 at.1)) in
+              ∙ turns_unclosed c e (get_or rows (txn_in e).least row) may h (row_is rows c (txn_in e) row is.are at.0 at.1)) in
               ap (λ (r : Row). is_closed (Some r.status)) (get_or-set_other rows (txn_in e).least k (row_after e (get_or rows (txn_in e).least empty_row)) row differ) ∙ is.low_is.passed.below k row lt;
         };
       }

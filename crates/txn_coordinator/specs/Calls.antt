@@ -19,7 +19,7 @@ use Rattle.txn_model.specs.Full.{full_transactions, full_log}
 use Rattle.txn_model.specs.Table.{decision_entry, closing_entry}
 use Rattle.txn_coordinator.specs.declared.error.CoordError.{CoordError}
 use Rattle.txn_coordinator.specs.declared.error.CoordError.TheVariants as coord_error
-use Rattle.txn_coordinator.specs.View.{CoordView, length_of, logged}
+use Rattle.txn_coordinator.specs.View.{CoordView, coord_total, with_entry}
 
 -- The call failed for want of memory, or since the disk failed.
 abbrev pub MayFail : {T : Type 0} → Result T CoordError → Type 0
@@ -39,7 +39,7 @@ refused_full what (Some count) = Some (coord_error.Full what count)
 
 -- The log has no room for what clients add.
 abbrev pub log_refusal : CoordView → Option CoordError
-log_refusal v = refused_full Log (full_log v.limits (length_of v) 1)
+log_refusal v = refused_full Log (full_log v.limits (coord_total v) 1)
 
 -- There are as many transactions since the low watermark of the opening as the window has room for.
 abbrev pub window_refusal : CoordView → Option CoordError
@@ -65,7 +65,7 @@ abbrev pub add_refusal : CoordView → TxnId → ℕ → Option CoordError
 add_refusal v x p = add_refusal_at (status_in_view v x) (has_part v x p) (log_refusal v)
 
 abbrev pub with_part : CoordView → TxnId → ℕ → CoordView
-with_part v x p = if has_part v x p then v else logged v (coord.AddPart x p)
+with_part v x p = if has_part v x p then v else with_entry v (coord.AddPart x p)
 
 -- ---- A decision. The same one again adds nothing, and the opposite one is refused.
 
@@ -77,7 +77,7 @@ abbrev pub decide_refusal : CoordView → TxnId → Decision → Option CoordErr
 decide_refusal v x d = decide_refusal_at (status_in_view v x) d
 
 abbrev pub decided : CoordView → TxnId → Decision → CoordView
-decided v x d = if is_open (status_in_view v x) then logged v (decision_entry x d) else v
+decided v x d = if is_open (status_in_view v x) then with_entry v (decision_entry x d) else v
 
 -- The status that is told.
 abbrev pub decided_status : CoordView → TxnId → Decision → Status

@@ -8,19 +8,19 @@ use Rattle.txn_base.specs.Decoded.{coord_entry_of, coord_entries}
 use Rattle.txn_model.specs.Skeletons.{coord_skeleton, coord_skeletons}
 use Rattle.txn_model.specs.Coord.{coord_allows, CoordLawful}
 use Rattle.txn_model.specs.Deadlines.{low_of}
-use Rattle.txn_coordinator.specs.View.{CoordView, length_of}
+use Rattle.txn_coordinator.specs.View.{CoordView, coord_total}
 
 -- In a ledger, the record at a place.
-abbrev pub record_at : LedgerContent → ℕ → Record
-record_at content place = slice_index_or (records content.batches) place []
+abbrev pub record_in : LedgerContent → ℕ → Record
+record_in content place = slice_index_or (records content.batches) place []
 
 -- From this place on, the records of a ledger are those of these entries.
 abbrev pub AreRecordsFrom : LedgerContent → ℕ → List CoordEntry → Type 0
-AreRecordsFrom content at entries = (k : ℕ) (e : CoordEntry) → k < length entries → IsCoordRecord (record_at content (at + k)) (slice_index_or entries k e)
+AreRecordsFrom content at entries = (k : ℕ) (e : CoordEntry) → k < length entries → IsCoordRecord (record_in content (at + k)) (slice_index_or entries k e)
 
 -- From this place to before that one, the records of a ledger are those of these entries, at the same places.
 abbrev pub AreRecordsTo : LedgerContent → ℕ → ℕ → List CoordEntry → Type 0
-AreRecordsTo content from to entries = (k : ℕ) (e : CoordEntry) → from ≤ k → k < to → IsCoordRecord (record_at content k) (slice_index_or entries k e)
+AreRecordsTo content from to entries = (k : ℕ) (e : CoordEntry) → from ≤ k → k < to → IsCoordRecord (record_in content k) (slice_index_or entries k e)
 
 -- Up to this place, the records of a ledger are in the grammar.
 abbrev pub AreInGrammar : LedgerContent → ℕ → Type 0
@@ -34,11 +34,11 @@ pub record AreReplayed (n : ℕ) (content : LedgerContent) (front : List CoordEn
 
 -- Of n named parts, the record at this place is the first that is outside its grammar, or isn't allowed after those before
 -- it.
-pub record IsBadRecord (n : ℕ) (content : LedgerContent) (place : ℕ) : Type 0 where
+pub record IsFirstBadRecord (n : ℕ) (content : LedgerContent) (place : ℕ) : Type 0 where
   pub within : place < length (records content.batches)
   pub grammar : AreInGrammar content place
   pub before : CoordLawful n (coord_skeletons (take place (coord_entries content.batches)))
-  pub bad : (e : CoordEntry) → IsCoordRecord (record_at content place) e → coord_allows n (coord_skeletons (take place (coord_entries content.batches))) (coord_skeleton e) ≡ false
+  pub bad : (e : CoordEntry) → IsCoordRecord (record_in content place) e → coord_allows n (coord_skeletons (take place (coord_entries content.batches))) (coord_skeleton e) ≡ false
 
 -- What was in flight stands there now, or was dropped. Where nothing was, the two are the same.
 abbrev pub IsSettledFrom : LedgerContent → LedgerContent → Type 0
@@ -48,16 +48,16 @@ IsSettledFrom old new = (new ≡ kept old) ⊎ (new ≡ dropped old)
 -- left. The low watermark of the opening is that of the moment when the coordinator is whole for the first time.
 pub record Mends (old new : CoordView) : Type 0 where
   pub settles : IsSettledFrom old.content new.content
-  pub grows : length new.front ≡ min (length_of new) (length old.front + old.limits.step)
+  pub grows : length new.front ≡ min (coord_total new) (length old.front + old.limits.step)
   pub extends : old.front ≡ take (length old.front) new.front
-  pub whole : IsTrue new.whole ↔ (length new.front ≡ length_of new)
+  pub whole : IsTrue new.whole ↔ (length new.front ≡ coord_total new)
   pub opened : new.opened_low ≡ (if old.was_whole then old.opened_low else (if new.whole then low_of new.front else old.opened_low))
   pub was_whole : new.was_whole ≡ (old.was_whole || new.whole)
   pub reserved : new.reserved ≡ (if old.whole then old.reserved else 0)
   pub limits : new.limits ≡ old.limits
 
 -- A step that is refused: it may have settled the log, and nothing else changes.
-pub record Stays (old new : CoordView) : Type 0 where
+pub record IsRefusedStep (old new : CoordView) : Type 0 where
   pub settles : (new.content ≡ old.content) ⊎ IsSettledFrom old.content new.content
   pub front : new.front ≡ old.front
   pub whole : new.whole ≡ old.whole

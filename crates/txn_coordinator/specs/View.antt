@@ -22,16 +22,16 @@ pub record CoordView : Type 0 where
   pub limits : Limits
 
 -- The number of records in its log.
-abbrev pub length_of : CoordView → ℕ
-length_of v = length (records v.content.batches)
+abbrev pub coord_total : CoordView → ℕ
+coord_total v = length (records v.content.batches)
 
 -- The batch of one entry.
 abbrev pub coord_batch : CoordEntry → Batch
 coord_batch e = coord_record e ∷ []
 
 -- With this entry behind the others.
-abbrev pub logged : CoordView → CoordEntry → CoordView
-logged v e =
+abbrev pub with_entry : CoordView → CoordEntry → CoordView
+with_entry v e =
     record {
       content = landed v.content (coord_batch e);
       front = v.front ++ e ∷ [];
@@ -43,8 +43,8 @@ logged v e =
     }
 
 -- With this entry in flight, after its append failed: all that was rebuilt is thrown away.
-abbrev pub fenced : CoordView → CoordEntry → CoordView
-fenced v e =
+abbrev pub with_failed_entry : CoordView → CoordEntry → CoordView
+with_failed_entry v e =
     record {
       content = begun v.content (coord_batch e);
       front = [];
@@ -74,7 +74,7 @@ IsFrontOf v = v.front ≡ take (length v.front) (coord_entries v.content.batches
 
 -- How far the coordinator is.
 abbrev pub state_of : CoordView → PartState
-state_of v = if v.whole then Whole else Mending (length v.front) (length_of v)
+state_of v = if v.whole then Whole else Mending (length v.front) (coord_total v)
 
 -- What a coordinator over this log is at first.
 abbrev pub first_view : LedgerContent → Limits → CoordView
@@ -91,7 +91,7 @@ first_view content limits =
 
 -- What a coordinator keeps of its fields: the number of its entries, room in the log for a close that was reserved, and
 -- room for a record.
-pub record IsKept (content : LedgerContent) (front : List CoordEntry) (at : ℕ) (whole was_whole reserved : Bool) (spare room bytes : ℕ) : Type 0 where
+pub record CoordinatorInvariant (content : LedgerContent) (front : List CoordEntry) (at : ℕ) (whole was_whole reserved : Bool) (spare room bytes : ℕ) : Type 0 where
   pub at_is : at ≡ length front
   pub within : length front ≤ length (records content.batches)
   pub all_of : IsTrue whole → length front ≡ length (records content.batches)

@@ -6,7 +6,7 @@ ghost use Rattle.txn_base.specs.Records.{IsCoordEntry};
 ghost use Rattle.txn_model.specs.Skeletons.{coord_skeletons};
 ghost use Rattle.txn_model.specs.Coord.{CoordLawful, count_new, status_of, in_parts, decision_of};
 ghost use Rattle.txn_model.specs.Deadlines.{low_of, first_undriven};
-ghost use Rattle.txn_coordinator.specs.View.{length_of, state_of, first_view};
+ghost use Rattle.txn_coordinator.specs.View.{coord_total, state_of, first_view};
 
 use crate::log_entry::RECORD;
 use crate::table::Table;
@@ -41,7 +41,7 @@ pub struct Coordinator<R: RecordLog> {
 }
 
 impl<R: RecordLog> Model for Coordinator<R> {
-    ghost use Rattle.txn_coordinator.specs.View.{CoordView, IsKept};
+    ghost use Rattle.txn_coordinator.specs.View.{CoordView, CoordinatorInvariant};
 
     ghost Value = { CoordView };
 
@@ -50,7 +50,7 @@ impl<R: RecordLog> Model for Coordinator<R> {
 
     ghost view = { λ c. record { content = R.content c.log; front = c.table.front; whole = c.whole; reserved = if c.reserved then 1 else 0; opened_low = c.opened_low; was_whole = c.was_whole; limits = c.limits } };
 
-    ghost invariant = { λ c. IsKept (R.content c.log) c.table.front c.at c.whole c.was_whole c.reserved (R.spare c.log) (R.room c.log) (capacity c.bytes) };
+    ghost invariant = { λ c. CoordinatorInvariant (R.content c.log) c.table.front c.at c.whole c.was_whole c.reserved (R.spare c.log) (R.room c.log) (capacity c.bytes) };
 }
 
 impl<R: RecordLog + Drop> Coordinator<R> {
@@ -120,7 +120,7 @@ impl<R: RecordLog> Coordinator<R> {
 
     /// The number of records in its log.
     pub fn len(&self) -> u64
-        ensures { result ≡ length_of self.now }
+        ensures { result ≡ coord_total self.now }
     {
         self.log.len()
     }
@@ -137,8 +137,8 @@ impl<R: RecordLog> Coordinator<R> {
         ensures state { result ≡ state_of self.now }
         ensures entries { All IsCoordEntry self.now.front }
         ensures lawful { CoordLawful 62 (coord_skeletons self.now.front) }
-        ensures within { length self.now.front ≤ length_of self.now }
-        ensures whole { IsTrue self.now.whole → length self.now.front ≡ length_of self.now }
+        ensures within { length self.now.front ≤ coord_total self.now }
+        ensures whole { IsTrue self.now.whole → length self.now.front ≡ coord_total self.now }
         ensures settled { IsTrue self.now.whole → self.now.content.standing ≡ settled }
         ensures opened { IsTrue self.now.whole → IsTrue self.now.was_whole }
         ensures reserved { self.now.reserved ≤ 1 }

@@ -7,7 +7,7 @@ ghost use Rattle.txn_base.specs.Disk.{Same};
 ghost use Rattle.txn_base.specs.Frames.{records};
 ghost use Rattle.txn_base.specs.Records.{IsCoordEntry, IsCoordRecord};
 ghost use Rattle.txn_base.specs.Moves.{After, FaultsIn};
-ghost use Rattle.txn_coordinator.specs.Mending.{record_at, AreRecordsFrom, AreRecordsTo, AreReplayed, IsBadRecord};
+ghost use Rattle.txn_coordinator.specs.Mending.{record_in, AreRecordsFrom, AreRecordsTo, AreReplayed, IsFirstBadRecord};
 ghost use Rattle.txn_coordinator.specs.Table.{AreEntries};
 ghost use Rattle.txn_model.specs.Coord.{CoordLawful};
 ghost use Rattle.txn_model.specs.Skeletons.{coord_skeletons};
@@ -32,9 +32,9 @@ fn read_entry<D: Disk, L: ledger::Ledger, R: RecordLog>(
     requires settled { (R.content log.now).standing ≡ settled }
     requires backed { Backed R.stands (D.image disk.old) (R.content log.now) }
     ensures fits { IfOk result IsCoordEntry }
-    ensures read { D.tells → IfOk result (IsCoordRecord (record_at (R.content log.now) place)) }
+    ensures read { D.tells → IfOk result (IsCoordRecord (record_in (R.content log.now) place)) }
     ensures damaged { (at : ℕ) → result ≡ Err (MendError.Damaged at) → at ≡ place }
-    ensures bad { D.tells → result ≡ Err (MendError.Damaged place) → (e : CoordEntry) → IsCoordRecord (record_at (R.content log.now) place) e → ⊥ }
+    ensures bad { D.tells → result ≡ Err (MendError.Damaged place) → (e : CoordEntry) → IsCoordRecord (record_in (R.content log.now) place) e → ⊥ }
     ensures counted { steps.new ≡ steps.old + 1 }
     ensures seen { D.seen disk.new ≡ D.seen disk.old }
     ensures images { After D.Disk Same disk.old disk.new }
@@ -76,7 +76,7 @@ pub fn stage<D: Disk, L: ledger::Ledger, R: RecordLog>(
     ensures lawful { CoordLawful named (coord_skeletons table.now.front) → IfOk result (λ staged. CoordLawful named (coord_skeletons (table.now.front ++ staged.items))) }
     ensures replayed { D.tells → AreReplayed named (R.content log.now) table.now.front → IfOk result (λ staged. AreReplayed named (R.content log.now) (table.now.front ++ staged.items)) }
     ensures damaged { (place : ℕ) → result ≡ Err (MendError.Damaged place) → (at ≤ place) × (place < end) }
-    ensures bad { D.tells → AreReplayed named (R.content log.now) table.now.front → (place : ℕ) → result ≡ Err (MendError.Damaged place) → IsBadRecord named (R.content log.now) place }
+    ensures bad { D.tells → AreReplayed named (R.content log.now) table.now.front → (place : ℕ) → result ≡ Err (MendError.Damaged place) → IsFirstBadRecord named (R.content log.now) place }
     ensures counted { OnOk result (steps.new + at ≡ steps.old + end) }
     ensures few { steps.new + at ≤ steps.old + end }
     ensures seen { D.seen disk.new ≡ D.seen disk.old }
@@ -133,7 +133,7 @@ pub fn replay<D: Disk, L: ledger::Ledger, R: RecordLog>(
     ensures lawful { CoordLawful named (coord_skeletons table.old.front) → CoordLawful named (coord_skeletons table.new.front) }
     ensures replayed { D.tells → AreReplayed named (R.content log.now) table.old.front → AreReplayed named (R.content log.now) table.new.front }
     ensures damaged { (place : ℕ) → result ≡ Err (MendError.Damaged place) → (at ≤ place) × (place < end) }
-    ensures bad { D.tells → AreReplayed named (R.content log.now) table.old.front → (place : ℕ) → result ≡ Err (MendError.Damaged place) → IsBadRecord named (R.content log.now) place }
+    ensures bad { D.tells → AreReplayed named (R.content log.now) table.old.front → (place : ℕ) → result ≡ Err (MendError.Damaged place) → IsFirstBadRecord named (R.content log.now) place }
     ensures counted { OnOk result (steps.new + at ≡ steps.old + end) }
     ensures few { steps.new + at ≤ steps.old + end }
     ensures seen { D.seen disk.new ≡ D.seen disk.old }

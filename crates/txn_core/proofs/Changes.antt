@@ -11,7 +11,7 @@ use Rattle.txn_model.proofs.Laws.Lists.{first_stays}
 use Rattle.txn_model.proofs.Laws.Logs.{parts_stay, decision_stays}
 use Rattle.txn_model.proofs.Laws.Topics.{marker_stays}
 use Rattle.txn_core.specs.Together.{IsAlone}
-use Rattle.txn_core.specs.Kept.{Stands}
+use Rattle.txn_core.specs.Kept.{StandTogether}
 use Rattle.txn_core.proofs.Alone.{alone_front, alone_log, inside_stays, inside_cases, first_cases, parts_settled}
 
 -- after a step, part p has this list and this flight, and the others have what they had
@@ -32,7 +32,7 @@ at_each p lists flights lists' flights' a b at P here q others = go (ℕ_discret
 
 -- of the flight of p, the first entries settle, the next stay in flight, and the rest goes
 module _ (n : ℕ) (lists flights lists' flights' : ℕ → List CoreEntry) (p : ℕ) (first next rest : List CoreEntry)
-    (k : Stands n lists flights) (cut : flights p ≡ first ++ (next ++ rest)) (at : At p lists flights lists' flights' (lists p ++ first) next) where
+    (k : StandTogether n lists flights) (cut : flights p ≡ first ++ (next ++ rest)) (at : At p lists flights lists' flights' (lists p ++ first) next) where
   whole : lists p ++ flights p ≡ ((lists p ++ first) ++ next) ++ rest
   whole = ap (λ l. lists p ++ l) cut ∙ sym (append_assoc (lists p) first (next ++ rest)) ∙ sym (append_assoc (lists p ++ first) next rest)
 
@@ -48,7 +48,7 @@ module _ (n : ℕ) (lists flights lists' flights' : ℕ → List CoreEntry) (p :
   few : (f g h : List CoreEntry) → length (f ++ (g ++ h)) ≤ 1 → length g ≤ 1
   few f g h l = omega (arith, l, length-append f (g ++ h), length-append g h)
 
-  pub settles : Stands n lists' flights'
+  pub settles : StandTogether n lists' flights'
   settles =
       record {
         alone = λ q. at_each p lists flights lists' flights' (lists p ++ first) next at (λ j a b. IsAlone n j (a ++ b))
@@ -66,7 +66,7 @@ module _ (n : ℕ) (lists flights lists' flights' : ℕ → List CoreEntry) (p :
 
 -- part p starts entries
 module _ (n : ℕ) (lists flights lists' flights' : ℕ → List CoreEntry) (p : ℕ) (es : List CoreEntry)
-    (k : Stands n lists flights) (at : At p lists flights lists' flights' (lists p) es)
+    (k : StandTogether n lists flights) (at : At p lists flights lists' flights' (lists p) es)
     (alone : IsAlone n p (lists p ++ es))
     (one : p ≡ 0 → length es ≤ 1)
     (inside : (x : TxnId) → has_inside es x ≡ true → in_parts (lists 0) x p ≡ true)
@@ -75,7 +75,7 @@ module _ (n : ℕ) (lists flights lists' flights' : ℕ → List CoreEntry) (p :
   same : (q : ℕ) → lists' q ≡ lists q
   same q = at_each p lists flights lists' flights' (lists p) es at (λ j a b. a ≡ lists j) refl q (λ m. refl)
 
-  pub starts : Stands n lists' flights'
+  pub starts : StandTogether n lists' flights'
   starts =
       record {
         alone = λ q. at_each p lists flights lists' flights' (lists p) es at (λ j a b. IsAlone n j (a ++ b))

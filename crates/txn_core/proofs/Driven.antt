@@ -15,32 +15,32 @@ use Rattle.txn_model.specs.Names.{name_of}
 use Rattle.txn_model.specs.Coord.{status_of, is_open, decision_of, closing_of, in_parts, parts_of}
 use Rattle.txn_model.specs.Topic.{marker_of}
 use Rattle.txn_model.specs.World.{log_of, part_skeletons, Lawful}
-use Rattle.txn_model.specs.Table.{TableState, nothing, in_coord, in_topic, in_sub, batch_part, settled, is_fenced, decision_entry, decision_batch, closing_batch, topic_marker, ack_marker, marker_batch, given_after, marked}
+use Rattle.txn_model.specs.Table.{TableState, nothing, in_coord, in_topic, in_sub, batch_part, with_batch, is_unrebuilt, decision_entry, decision_batch, closing_batch, topic_marker, ack_marker, marker_batch, given_after, marked}
 use Rattle.txn_model.specs.Drive.{Rebuilds, MarksAll, StopsAt, recovery_fault, recovery_memory, marker_memory, marker_fault, StopsWithin, Drives, already, closes, close_fault, stops}
 use Rattle.txn_model.specs.Answers.{AppendFails, Ends}
-use Rattle.txn_model.specs.Allowed.{IsWhole, LawfulState}
+use Rattle.txn_model.specs.Allowed.{IsPartRebuilt, LawfulState}
 use Rattle.txn_model.proofs.Laws.Tests.{no_true}
 use Rattle.txn_model.proofs.Laws.States.{settled_state, Keeps, rebuilds_keeps, rebuilds_coord, AreNamed, Marked, marks_keep}
 use Rattle.txn_model.proofs.Laws.Grants.{marker_granted, closing_allowed, Granted, decision_granted}
 use Rattle.txn_model.proofs.Laws.Names.{few_names}
-use Rattle.txn_core.specs.Tables.{IsShort}
+use Rattle.txn_core.specs.Tables.{FitsOneBatch}
 use Rattle.txn_core.proofs.Asked.{parts_within}
-use Rattle.txn_core.proofs.Led.{Led, both_led, eq_led, settled_led, given_led, batch_led, rebuilds_led, fenced_led, fails_led}
+use Rattle.txn_core.proofs.Led.{Led, both_led, eq_led, settled_led, given_led, batch_led, rebuilds_led, unrebuilt_led, fails_led}
 
 -- ---- Markers.
 
-marker_whole : (t : TableState) (x : TxnId) (d : Decision) (p : ℕ) → is_fenced t p ≡ false → IsWhole (marker_batch t x d p) t
+marker_whole : (t : TableState) (x : TxnId) (d : Decision) (p : ℕ) → is_unrebuilt t p ≡ false → IsPartRebuilt (marker_batch t x d p) t
 marker_whole t x d p h = by_test (is_some (marker_of (part_skeletons t.world p) x)) (is_sub (name_of t.world.names p))
   where
-    by_test : (b c : Bool) → IsWhole (if b then nothing else (if c then in_sub p (ack_marker x d) else in_topic p (topic_marker x d ∷ []))) t
+    by_test : (b c : Bool) → IsPartRebuilt (if b then nothing else (if c then in_sub p (ack_marker x d) else in_topic p (topic_marker x d ∷ []))) t
     by_test true c = tt
     by_test false true = h
     by_test false false = h
 
-marker_short : (t : TableState) (x : TxnId) (d : Decision) (p : ℕ) → IsShort (marker_batch t x d p)
+marker_short : (t : TableState) (x : TxnId) (d : Decision) (p : ℕ) → FitsOneBatch (marker_batch t x d p)
 marker_short t x d p = by_test (is_some (marker_of (part_skeletons t.world p) x)) (is_sub (name_of t.world.names p))
   where
-    by_test : (b c : Bool) → IsShort (if b then nothing else (if c then in_sub p (ack_marker x d) else in_topic p (topic_marker x d ∷ [])))
+    by_test : (b c : Bool) → FitsOneBatch (if b then nothing else (if c then in_sub p (ack_marker x d) else in_topic p (topic_marker x d ∷ [])))
     by_test true c = omega arith
     by_test false true = omega arith
     by_test false false = omega arith
@@ -60,7 +60,7 @@ record Step (x : TxnId) (d : Decision) (p : ℕ) (t mid : TableState) : Type 0 w
 
 marked_step : (x : TxnId) (d : Decision) (p : ℕ) (t mid : TableState) → LawfulState t → 1 ≤ p → p ≤ length t.world.names → decision_of (log_of t.world) x ≡ Some d → Rebuilds p t mid → Step x d p t mid
 marked_step x d p t mid s low high decided h =
-    let r : Keeps t mid × (is_fenced mid p ≡ false) = rebuilds_keeps p t mid s h in
+    let r : Keeps t mid × (is_unrebuilt mid p ≡ false) = rebuilds_keeps p t mid s h in
     let still : decision_of (log_of mid.world) x ≡ Some d = subst (λ cs. decision_of (coord_skeletons cs) x ≡ Some d) (sym (rebuilds_coord p t mid low h)) decided in
     let up : p ≤ length mid.world.names = subst (λ names. p ≤ length names) (sym r.0.names) high in
     record {
@@ -79,11 +79,11 @@ marks_led x d (p ∷ ps) t t' s named decided h =
 
 module _ (rose : ℕ → Type 0) where
   stop_led : (x : TxnId) (d : Decision) (p : ℕ) (t : TableState) (reason : Why) (t' : TableState) → LawfulState t → 1 ≤ p → p ≤ length t.world.names → decision_of (log_of t.world) x ≡ Some d → StopsAt rose x d p t reason t' → Led t t'
-  stop_led x d p t reason t' s low high decided (recovery_fault h r w) = fenced_led p t t' s h
-  stop_led x d p t reason t' s low high decided (recovery_memory h w) = fenced_led p t t' s h
+  stop_led x d p t reason t' s low high decided (recovery_fault h r w) = unrebuilt_led p t t' s h
+  stop_led x d p t reason t' s low high decided (recovery_memory h w) = unrebuilt_led p t t' s h
   stop_led x d p t reason t' s low high decided (marker_memory f r n w) = rebuilds_led p t t' s r
   stop_led x d p t reason t' s low high decided (marker_fault mid r n z e w) =
-      let k : Keeps t mid × (is_fenced mid p ≡ false) = rebuilds_keeps p t mid s r in
+      let k : Keeps t mid × (is_unrebuilt mid p ≡ false) = rebuilds_keeps p t mid s r in
       let still : decision_of (log_of mid.world) x ≡ Some d = subst (λ cs. decision_of (coord_skeletons cs) x ≡ Some d) (sym (rebuilds_coord p t mid low r)) decided in
       let g : Granted (marker_batch mid x d p) mid.world = marker_granted mid x d p k.0.state.lawful low (subst (λ names. p ≤ length names) (sym k.0.names) high) still in
       both_led t mid t' (rebuilds_led p t mid s r)
@@ -158,21 +158,21 @@ closing_granted x d t mid s unclosed decided m =
 
 -- ---- The decision, and the drive.
 
-decision_whole : (t : TableState) (x : TxnId) (d : Decision) → is_fenced t 0 ≡ false → IsWhole (decision_batch t x d) t
+decision_whole : (t : TableState) (x : TxnId) (d : Decision) → is_unrebuilt t 0 ≡ false → IsPartRebuilt (decision_batch t x d) t
 decision_whole t x d whole = by_test (is_open (status_of (log_of t.world) x))
   where
-    by_test : (b : Bool) → IsWhole (if b then in_coord (decision_entry x d) else nothing) t
+    by_test : (b : Bool) → IsPartRebuilt (if b then in_coord (decision_entry x d) else nothing) t
     by_test true = whole
     by_test false = tt
 
-decision_short : (t : TableState) (x : TxnId) (d : Decision) → IsShort (decision_batch t x d)
+decision_short : (t : TableState) (x : TxnId) (d : Decision) → FitsOneBatch (decision_batch t x d)
 decision_short t x d = by_test (is_open (status_of (log_of t.world) x))
   where
-    by_test : (b : Bool) → IsShort (if b then in_coord (decision_entry x d) else nothing)
+    by_test : (b : Bool) → FitsOneBatch (if b then in_coord (decision_entry x d) else nothing)
     by_test true = omega arith
     by_test false = omega arith
 
-drive_led : (rose : ℕ → Type 0) (x : TxnId) (t : TableState) (outcome : Outcome) (t' : TableState) → LawfulState t → is_fenced t 0 ≡ false → Drives rose x t outcome t' → Led t t'
+drive_led : (rose : ℕ → Type 0) (x : TxnId) (t : TableState) (outcome : Outcome) (t' : TableState) → LawfulState t → is_unrebuilt t 0 ≡ false → Drives rose x t outcome t' → Led t t'
 drive_led rose x t outcome t' s whole (already d c o e) = eq_led t t' e
 drive_led rose x t outcome t' s whole (closes d c k mid h o e) =
     let m : Marked x d (parts_of (log_of t.world) x) t mid = marks_keep x d (parts_of (log_of t.world) x) t mid s (parts_named t.world x s.lawful) k h in
@@ -187,12 +187,12 @@ drive_led rose x t outcome t' s whole (close_fault d c k mid h f o e) =
 drive_led rose x t outcome t' s whole (stops d c k p reason h o) =
     stops_led rose x d (parts_of (log_of t.world) x) p t reason t' s (parts_named t.world x s.lawful) k h
 
-pub end_led : (rose : ℕ → Type 0) (t : TableState) (x : TxnId) (d : Decision) (outcome : Outcome) (t' : TableState) → LawfulState t → is_fenced t 0 ≡ false → Ends rose t x d outcome t' → Led t t'
+pub end_led : (rose : ℕ → Type 0) (t : TableState) (x : TxnId) (d : Decision) (outcome : Outcome) (t' : TableState) → LawfulState t → is_unrebuilt t 0 ≡ false → Ends rose t x d outcome t' → Led t t'
 end_led rose t x d outcome t' s whole h =
     let g : Granted (decision_batch t x d) t.world = decision_granted t x d s.lawful in
-    let mid : TableState = settled (decision_batch t x d) t in
+    let mid : TableState = with_batch (decision_batch t x d) t in
     both_led t mid t' (settled_led (decision_batch t x d) t s g (decision_whole t x d whole) (decision_short t x d))
     (drive_led rose x mid outcome t' (settled_state (decision_batch t x d) t s g.fits (decision_whole t x d whole) g.allowed) whole h)
 
-pub decides_led : (rose : ℕ → Type 0) (t : TableState) (x : TxnId) (d : Decision) (told : Reply) (t' : TableState) → LawfulState t → is_fenced t 0 ≡ false → AppendFails rose (decision_batch t x d) t told t' → Led t t'
+pub decides_led : (rose : ℕ → Type 0) (t : TableState) (x : TxnId) (d : Decision) (told : Reply) (t' : TableState) → LawfulState t → is_unrebuilt t 0 ≡ false → AppendFails rose (decision_batch t x d) t told t' → Led t t'
 decides_led rose t x d told t' s whole h = fails_led rose (decision_batch t x d) t told t' s (decision_granted t x d s.lawful) (decision_whole t x d whole) (decision_short t x d) h

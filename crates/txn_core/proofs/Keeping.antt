@@ -18,8 +18,8 @@ use Rattle.txn_core.specs.declared.step.CoreStep.{CoreStep}
 use Rattle.txn_core.specs.declared.step.CoreStep.TheVariants as act
 use Rattle.txn_core.specs.declared.step.Told.{Told}
 use Rattle.txn_core.specs.Together.{is_alone, IsAlone, AreLawful}
-use Rattle.txn_core.specs.Steps.{CoreState, no_row, started, row_of, settled_of, flight_of, with_row, is_batch, is_flying, may_cross, may_start, from_place, told_places, can, start_row, settle_row, stop_row, after, run, kept_of}
-use Rattle.txn_core.specs.Kept.{Stands, StaysTold, IsKept, resting_row, opened}
+use Rattle.txn_core.specs.Steps.{CoreState, no_row, started, row_of, settled_of, flight_of, with_row, is_batch, is_flying, may_cross, may_start, from_place, told_places, can, start_row, settle_row, stop_row, core_after, run, kept_of}
+use Rattle.txn_core.specs.Kept.{StandTogether, StaysTold, CoreInvariant, resting_row, resting_core}
 use Rattle.txn_core.proofs.Alone.{none_some, alone_front, alone_log}
 use Rattle.txn_core.proofs.Stops.{stop_lawful}
 use Rattle.txn_core.proofs.Changes.{At, settles, starts}
@@ -91,8 +91,8 @@ flying_within s p h = ltb-true p (length s.rows) (and_l (nat_lt p (length s.rows
 
 -- ---- The lists stand.
 
-start_stands : (n : ℕ) (s : CoreState) (p : ℕ) (es : List CoreEntry) → n ≤ 62 → Stands n (settled_of s) (flight_of s) → Starts n s p es
-    → Stands n (settled_of (with_row s p (start_row es (row_of s p)))) (flight_of (with_row s p (start_row es (row_of s p))))
+start_stands : (n : ℕ) (s : CoreState) (p : ℕ) (es : List CoreEntry) → n ≤ 62 → StandTogether n (settled_of s) (flight_of s) → Starts n s p es
+    → StandTogether n (settled_of (with_row s p (start_row es (row_of s p)))) (flight_of (with_row s p (start_row es (row_of s p))))
 start_stands n s p es few k h =
     let r = start_row es (row_of s p) in
     starts n (settled_of s) (flight_of s) (settled_of (with_row s p r)) (flight_of (with_row s p r)) p es k (at_row s p r h.within) h.alone h.one
@@ -102,15 +102,15 @@ start_stands n s p es few k h =
     let range : (1 ≤ q) × (q ≤ n) = parts_within n (settled_of s 0) x q (alone_log n (settled_of s 0) log) i in
     marked_at (settled_of s) x d q (closings (settled_of s) p x d es h.cross c) range.0 (omega (arith, few, range.1)) i)
 
-settle_stands : (n : ℕ) (s : CoreState) (p : ℕ) → Stands n (settled_of s) (flight_of s) → p < length s.rows
-    → Stands n (settled_of (with_row s p (settle_row (row_of s p)))) (flight_of (with_row s p (settle_row (row_of s p))))
+settle_stands : (n : ℕ) (s : CoreState) (p : ℕ) → StandTogether n (settled_of s) (flight_of s) → p < length s.rows
+    → StandTogether n (settled_of (with_row s p (settle_row (row_of s p)))) (flight_of (with_row s p (settle_row (row_of s p))))
 settle_stands n s p k lt =
     let r = settle_row (row_of s p) in
     settles n (settled_of s) (flight_of s) (settled_of (with_row s p r)) (flight_of (with_row s p r)) p (take 1 (flight_of s p)) (drop 1 (flight_of s p)) [] k
     (sym (ap (λ l. take 1 (flight_of s p) ++ l) (append-nil (drop 1 (flight_of s p))) ∙ take-append-drop 1 (flight_of s p))) (at_row s p r lt)
 
-stop_stands : (n : ℕ) (s : CoreState) (p : ℕ) (stays : Bool) → Stands n (settled_of s) (flight_of s) → p < length s.rows
-    → Stands n (settled_of (with_row s p (stop_row stays (row_of s p)))) (flight_of (with_row s p (stop_row stays (row_of s p))))
+stop_stands : (n : ℕ) (s : CoreState) (p : ℕ) (stays : Bool) → StandTogether n (settled_of s) (flight_of s) → p < length s.rows
+    → StandTogether n (settled_of (with_row s p (stop_row stays (row_of s p)))) (flight_of (with_row s p (stop_row stays (row_of s p))))
 stop_stands n s p true k lt =
     let r = stop_row true (row_of s p) in
     settles n (settled_of s) (flight_of s) (settled_of (with_row s p r)) (flight_of (with_row s p r)) p (flight_of s p) [] [] k (sym (append-nil (flight_of s p))) (at_row s p r lt)
@@ -122,14 +122,14 @@ stop_stands n s p false k lt =
 -- ---- One step.
 
 -- no settled list gets shorter
-pub step_longer : (n : ℕ) (s : CoreState) (step : CoreStep) → can n s step ≡ true → (q : ℕ) → IsPrefix (settled_of s q) (settled_of (after s step) q)
+pub step_longer : (n : ℕ) (s : CoreState) (step : CoreStep) → can n s step ≡ true → (q : ℕ) → IsPrefix (settled_of s q) (settled_of (core_after s step) q)
 step_longer n s (act.Start p es) c q = longer_at s p (start_row es (row_of s p)) (may_start_has n s p es c).within (prefix_same (settled_of s p)) q
 step_longer n s (act.Settle p) c q = longer_at s p (settle_row (row_of s p)) (flying_within s p c) (take 1 (flight_of s p), refl) q
 step_longer n s (act.Stop p stays) c q =
     longer_at s p (stop_row stays (row_of s p)) (flying_within s p (and_l (is_flying s p) (stays || not (row_of s p).sure) c)) (stop_longer stays (settled_of s p) (flight_of s p)) q
 step_longer n s (act.Tell topic first count) c q = prefix_same (settled_of s q)
 
-step_stands : (n : ℕ) (s : CoreState) (step : CoreStep) → n ≤ 62 → Stands n (settled_of s) (flight_of s) → can n s step ≡ true → Stands n (settled_of (after s step)) (flight_of (after s step))
+step_stands : (n : ℕ) (s : CoreState) (step : CoreStep) → n ≤ 62 → StandTogether n (settled_of s) (flight_of s) → can n s step ≡ true → StandTogether n (settled_of (core_after s step)) (flight_of (core_after s step))
 step_stands n s (act.Start p es) few k c = start_stands n s p es few k (may_start_has n s p es c)
 step_stands n s (act.Settle p) few k c = settle_stands n s p k (flying_within s p c)
 step_stands n s (act.Stop p stays) few k c = stop_stands n s p stays k (flying_within s p (and_l (is_flying s p) (stays || not (row_of s p).sure) c))
@@ -138,43 +138,43 @@ step_stands n s (act.Tell topic first count) few k c = k
 told_after : (s s' : CoreState) → ((q : ℕ) → IsPrefix (settled_of s q) (settled_of s' q)) → (t : Told) → StaysTold s t → StaysTold s' t
 told_after s s' longer t h = told_stays t.places t.first (settled_of s t.topic) (settled_of s' t.topic) (longer t.topic) h
 
-step_told : (n : ℕ) (s : CoreState) (step : CoreStep) → can n s step ≡ true → ((t : Told) → Contains s.told t → StaysTold s t) → (t : Told) → Contains (after s step).told t → StaysTold (after s step) t
-step_told n s (act.Start p es) c old t h = told_after s (after s (act.Start p es)) (step_longer n s (act.Start p es) c) t (old t h)
-step_told n s (act.Settle p) c old t h = told_after s (after s (act.Settle p)) (step_longer n s (act.Settle p) c) t (old t h)
-step_told n s (act.Stop p stays) c old t h = told_after s (after s (act.Stop p stays)) (step_longer n s (act.Stop p stays) c) t (old t h)
+step_told : (n : ℕ) (s : CoreState) (step : CoreStep) → can n s step ≡ true → ((t : Told) → Contains s.told t → StaysTold s t) → (t : Told) → Contains (core_after s step).told t → StaysTold (core_after s step) t
+step_told n s (act.Start p es) c old t h = told_after s (core_after s (act.Start p es)) (step_longer n s (act.Start p es) c) t (old t h)
+step_told n s (act.Settle p) c old t h = told_after s (core_after s (act.Settle p)) (step_longer n s (act.Settle p) c) t (old t h)
+step_told n s (act.Stop p stays) c old t h = told_after s (core_after s (act.Stop p stays)) (step_longer n s (act.Stop p stays) c) t (old t h)
 step_told n s (act.Tell topic first count) c old t h =
     elim (Contains-push_cases s.told (record { topic = topic; first = first; places = told_places (settled_of s topic) first count }) t h) [
       | inl before ↦ old t before
       | inr now ↦ subst (StaysTold s) now (take_prefix count (from_place first (visible_places (settled_of s topic))))
     ]
 
-pub step_keeps : (n : ℕ) (s : CoreState) (step : CoreStep) → n ≤ 62 → IsKept n s → can n s step ≡ true → IsKept n (after s step)
+pub step_keeps : (n : ℕ) (s : CoreState) (step : CoreStep) → n ≤ 62 → CoreInvariant n s → can n s step ≡ true → CoreInvariant n (core_after s step)
 step_keeps n s step few k c = record { stands = step_stands n s step few k.stands c; told = step_told n s step c k.told }
 
 -- ---- Steps one after another.
 
-either_keeps : (n : ℕ) (s : CoreState) (step : CoreStep) (b : Bool) → can n s step ≡ b → n ≤ 62 → IsKept n s → IsKept n (if b then after s step else s)
+either_keeps : (n : ℕ) (s : CoreState) (step : CoreStep) (b : Bool) → can n s step ≡ b → n ≤ 62 → CoreInvariant n s → CoreInvariant n (if b then core_after s step else s)
 either_keeps n s step true c few k = step_keeps n s step few k c
 either_keeps n s step false c few k = k
 
-pub run_keeps : (n : ℕ) (s : CoreState) (steps : List CoreStep) → n ≤ 62 → IsKept n s → IsKept n (run n steps s)
+pub run_keeps : (n : ℕ) (s : CoreState) (steps : List CoreStep) → n ≤ 62 → CoreInvariant n s → CoreInvariant n (run n steps s)
 run_keeps n s [] few k = k
-run_keeps n s (step ∷ steps) few k = run_keeps n (if can n s step then after s step else s) steps few (either_keeps n s step (can n s step) refl few k)
+run_keeps n s (step ∷ steps) few k = run_keeps n (if can n s step then core_after s step else s) steps few (either_keeps n s step (can n s step) refl few k)
 
-either_longer : (n : ℕ) (s : CoreState) (step : CoreStep) (b : Bool) → can n s step ≡ b → (q : ℕ) → IsPrefix (settled_of s q) (settled_of (if b then after s step else s) q)
+either_longer : (n : ℕ) (s : CoreState) (step : CoreStep) (b : Bool) → can n s step ≡ b → (q : ℕ) → IsPrefix (settled_of s q) (settled_of (if b then core_after s step else s) q)
 either_longer n s step true c q = step_longer n s step c q
 either_longer n s step false c q = prefix_same (settled_of s q)
 
 pub run_longer : (n : ℕ) (s : CoreState) (steps : List CoreStep) (q : ℕ) → IsPrefix (settled_of s q) (settled_of (run n steps s) q)
 run_longer n s [] q = prefix_same (settled_of s q)
 run_longer n s (step ∷ steps) q =
-    let t = if can n s step then after s step else s in
+    let t = if can n s step then core_after s step else s in
     prefix_trans (settled_of s q) (settled_of t q) (settled_of (run n steps t) q) (either_longer n s step (can n s step) refl q) (run_longer n t steps q)
 
 -- steps in two pieces
 pub run-append : (n : ℕ) (s : CoreState) (xs ys : List CoreStep) → run n (xs ++ ys) s ≡ run n ys (run n xs s)
 run-append n s [] ys = refl
-run-append n s (x ∷ xs) ys = run-append n (if can n s x then after s x else s) xs ys
+run-append n s (x ∷ xs) ys = run-append n (if can n s x then core_after s x else s) xs ys
 
 pub taken_longer : (n : ℕ) (s : CoreState) (steps : List CoreStep) (count q : ℕ) → IsPrefix (settled_of (run n (take count steps) s) q) (settled_of (run n steps s) q)
 taken_longer n s steps count q =
@@ -188,7 +188,7 @@ resting_at [] p = refl
 resting_at (l ∷ ls) zero = refl
 resting_at (l ∷ ls) (suc p) = resting_at ls p
 
-pub opened_kept : (n : ℕ) (lists : List (List CoreEntry)) → AreLawful n (settled_of (opened lists)) → IsKept n (opened lists)
+pub opened_kept : (n : ℕ) (lists : List (List CoreEntry)) → AreLawful n (settled_of (resting_core lists)) → CoreInvariant n (resting_core lists)
 opened_kept n lists l =
     record {
       stands = record {
@@ -202,15 +202,15 @@ opened_kept n lists l =
     }
   where
     E : ℕ → List CoreEntry
-    E = settled_of (opened lists)
+    E = settled_of (resting_core lists)
 
-    none : (p : ℕ) → flight_of (opened lists) p ≡ []
+    none : (p : ℕ) → flight_of (resting_core lists) p ≡ []
     none p = ap (λ (r : CoreRow). r.flight) (resting_at lists p)
 
-    whole : (p : ℕ) (P : List CoreEntry → Type 0) → P (settled_of (opened lists) p) → P (settled_of (opened lists) p ++ flight_of (opened lists) p)
-    whole p P h = subst (λ f. P (settled_of (opened lists) p ++ f)) (sym (none p)) (subst P (sym (append-nil (settled_of (opened lists) p))) h)
+    whole : (p : ℕ) (P : List CoreEntry → Type 0) → P (settled_of (resting_core lists) p) → P (settled_of (resting_core lists) p ++ flight_of (resting_core lists) p)
+    whole p P h = subst (λ f. P (settled_of (resting_core lists) p ++ f)) (sym (none p)) (subst P (sym (append-nil (settled_of (resting_core lists) p))) h)
 
-    nothing : (t : Told) → Contains (opened lists).told t → ⊥
+    nothing : (t : Told) → Contains (resting_core lists).told t → ⊥
     nothing t h = let lt : h.0 < 0 = h.1 in omega (arith, lt)
 
 empty_at : (count p : ℕ) → slice_index_or (replicate count no_row) p no_row ≡ no_row
@@ -218,7 +218,7 @@ empty_at zero p = refl
 empty_at (suc count) zero = refl
 empty_at (suc count) (suc p) = empty_at count p
 
-pub started_kept : (n : ℕ) → IsKept n (started n)
+pub started_kept : (n : ℕ) → CoreInvariant n (started n)
 started_kept n =
     record {
       stands = record {
@@ -237,5 +237,5 @@ started_kept n =
     nothing : (t : Told) → Contains (started n).told t → ⊥
     nothing t h = let lt : h.0 < 0 = h.1 in omega (arith, lt)
 
-pub kept_lawful : (n : ℕ) (s : CoreState) (stays : ℕ → Bool) → IsKept n s → AreLawful n (kept_of s stays)
+pub kept_lawful : (n : ℕ) (s : CoreState) (stays : ℕ → Bool) → CoreInvariant n s → AreLawful n (kept_of s stays)
 kept_lawful n s stays k = stop_lawful n (settled_of s) (flight_of s) k.stands stays

@@ -4,6 +4,7 @@ pub mod Changes
 pub mod Asked
 pub mod Telling
 pub mod Keeping
+pub mod Laws
 pub mod Following
 pub mod Marked
 pub mod Worlds

@@ -24,33 +24,33 @@ use Rattle.txn_model.specs.Skeletons.{topic_skeleton}
 use Rattle.txn_model.specs.Entries.{message_entry}
 use Rattle.txn_model.specs.Coord.{in_parts}
 use Rattle.txn_model.specs.World.{log_of}
-use Rattle.txn_model.specs.Table.{TableState, nothing, in_coord, in_topic, is_fenced, at_moment, decision_batch}
+use Rattle.txn_model.specs.Table.{TableState, nothing, in_coord, in_topic, is_unrebuilt, at_moment, decision_batch}
 use Rattle.txn_model.specs.Requests.{number_of}
 use Rattle.txn_model.specs.EarlyRows.{early_rows, early_refusal, are_too_big}
 use Rattle.txn_model.specs.LateRows.{late_refusal, acks_in}
 use Rattle.txn_model.specs.Successes.{Success, success_of, acks_batch}
 use Rattle.txn_model.specs.Answers.{uses, with_coord, AppendFails, Fulfils, Ends, Succeeds, Answers, early, unrecovered, unread, late, granted, no_memory, no_memory_later, tick_target, tick_reply, reads_clock, moved}
-use Rattle.txn_model.specs.Replies.{Standing, RoseAt, Kind, too_long, blank, form, AnswersFrom, Replied, Replies}
-use Rattle.txn_model.specs.Allowed.{IsWhole, LawfulState}
+use Rattle.txn_model.specs.Replies.{RunState, RoseAt, LineKind, too_long, blank, form, AnswersFrom, Replied, Replies}
+use Rattle.txn_model.specs.Allowed.{IsPartRebuilt, LawfulState}
 use Rattle.txn_model.proofs.Laws.Tests.{no_true}
 use Rattle.txn_model.proofs.Laws.States.{same_state, Keeps, all_keep, all_whole, from_keeps}
 use Rattle.txn_model.proofs.Laws.Grants.{Granted, row_granted, rest_none, first_none, when_none, early_same}
 use Rattle.txn_core.specs.Worlds.{skeletons_of, flights_of}
 use Rattle.txn_core.specs.Steps.{no_row}
-use Rattle.txn_core.specs.Kept.{resting_row, opened}
-use Rattle.txn_core.specs.Tables.{row_by, Mirrors, AreSteps, IsShort}
+use Rattle.txn_core.specs.Kept.{resting_row, resting_core}
+use Rattle.txn_core.specs.Tables.{row_by, Mirrors, AreSteps, FitsOneBatch}
 use Rattle.txn_core.proofs.Moves.{same_steps}
 use Rattle.txn_core.proofs.Led.{Led, both_led, eq_led, given_led, all_led, refused_led, fails_led}
 use Rattle.txn_core.proofs.Driven.{has_first, has_later, end_led, decides_led}
 
 -- ---- A row, and a tick.
 
-row_led : (rose : ℕ → Type 0) (row : Success) (t : TableState) (told : Reply) (t' : TableState) → LawfulState t → Granted row.adds t.world → IsWhole row.adds t → IsShort row.adds
+row_led : (rose : ℕ → Type 0) (row : Success) (t : TableState) (told : Reply) (t' : TableState) → LawfulState t → Granted row.adds t.world → IsPartRebuilt row.adds t → FitsOneBatch row.adds
     → Fulfils row t told t' ⊎ AppendFails rose row.adds t told t' → Led t t'
 row_led rose row t told t' s g whole short (inl h) = subst (Led t) (sym h.1) (given_led row.adds t row.given s g whole short)
 row_led rose row t told t' s g whole short (inr h) = fails_led rose row.adds t told t' s g whole short h
 
-tick_led : (rose : ℕ → Type 0) (t : TableState) (o : Option TxnId) (told : Reply) (t' : TableState) → LawfulState t → is_fenced t 0 ≡ false
+tick_led : (rose : ℕ → Type 0) (t : TableState) (o : Option TxnId) (told : Reply) (t' : TableState) → LawfulState t → is_unrebuilt t 0 ≡ false
     → MatchOption o ((told ≡ tick_reply t None) × (t' ≡ t))
     (λ x. ((outcome : Outcome) × Ends rose t x Abort outcome t' × (told ≡ tick_reply t' (Some (x, outcome)))) ⊎ AppendFails rose (decision_batch t x Abort) t told t')
     → Led t t'
@@ -61,7 +61,7 @@ tick_led rose t (Some x) told t' s whole (inr h) = decides_led rose t x Abort to
 -- ---- The parts that a request uses, and how much it adds.
 
 abbrev WholeFor : World → Request → TableState → Type 0
-WholeFor w r t = (p : ℕ) → has (uses w r) p ≡ true → is_fenced t p ≡ false
+WholeFor w r t = (p : ℕ) → has (uses w r) p ≡ true → is_unrebuilt t p ≡ false
 
 uses_same : (w w' : World) (r : Request) → w'.names ≡ w.names → uses w' r ≡ uses w r
 uses_same w w' r e = ap (λ names. uses (record { names = names; coord = w'.coord; topics = w'.topics; subs = w'.subs }) r) e
@@ -70,19 +70,19 @@ has_behind : (who : Option TxnId) (p : ℕ) (ps : List ℕ) → has ps p ≡ tru
 has_behind None p ps h = h
 has_behind (Some x) p ps h = has_later 0 p ps h
 
-acks_whole : (t : TableState) (p : ℕ) (es : List AckEntry) → is_fenced t p ≡ false → IsWhole (acks_batch p es) t
+acks_whole : (t : TableState) (p : ℕ) (es : List AckEntry) → is_unrebuilt t p ≡ false → IsPartRebuilt (acks_batch p es) t
 acks_whole t p [] h = tt
 acks_whole t p (e ∷ es) h = h
 
-acks_short : (p : ℕ) (es : List AckEntry) → IsShort (acks_batch p es)
+acks_short : (p : ℕ) (es : List AckEntry) → FitsOneBatch (acks_batch p es)
 acks_short p [] = omega arith
 acks_short p (e ∷ es) = omega arith
 
-add_whole : (t : TableState) (b : Bool) (e : CoordEntry) → is_fenced t 0 ≡ false → IsWhole (if b then nothing else in_coord e) t
+add_whole : (t : TableState) (b : Bool) (e : CoordEntry) → is_unrebuilt t 0 ≡ false → IsPartRebuilt (if b then nothing else in_coord e) t
 add_whole t true e h = tt
 add_whole t false e h = h
 
-add_short : (b : Bool) (e : CoordEntry) → IsShort (if b then nothing else in_coord e)
+add_short : (b : Bool) (e : CoordEntry) → FitsOneBatch (if b then nothing else in_coord e)
 add_short true e = omega arith
 add_short false e = omega arith
 
@@ -99,7 +99,7 @@ tail_none [] h = refl
 tail_none (o ∷ os) h = rest_none o os h
 
 publish_short : (limits : Limits) (w : World) (topic : List ℕ) (who : Option TxnId) (bodies : List (List ℕ)) (p : ℕ) → InRange limits → early_refusal limits w (request.Publish topic who bodies) ≡ None
-    → IsShort (in_topic p (map (message_entry who) bodies))
+    → FitsOneBatch (in_topic p (map (message_entry who) bodies))
 publish_short limits w topic who bodies p range h =
     let rows : List (Option Refusal) = early_rows limits w (request.Publish topic who bodies) in
     let a = tail_none rows h in
@@ -178,29 +178,29 @@ moved_led rose limits t r m told t' range s a = by_test (reads_clock r) a
 
 -- ---- Lines.
 
-from_led : (limits : Limits) (s : Standing) (r : Request) (told : Reply) (s' : Standing) → InRange limits → LawfulState s.table → AnswersFrom limits s r told s' → Led s.table s'.table
-from_led limits s r told s' range l (inl h) = eq_led s.table s'.table (ap (λ (u : Standing). u.table) h.1)
+from_led : (limits : Limits) (s : RunState) (r : Request) (told : Reply) (s' : RunState) → InRange limits → LawfulState s.table → AnswersFrom limits s r told s' → Led s.table s'.table
+from_led limits s r told s' range l (inl h) = eq_led s.table s'.table (ap (λ (u : RunState). u.table) h.1)
 from_led limits s r told s' range l (inr h) = moved_led (RoseAt s s') limits s.table r h.0 told s'.table range l h.2
 
-still : (s s' : Standing) → s' ≡ s → LawfulState s.table → Led s.table s'.table × LawfulState s'.table
-still s s' e l = (eq_led s.table s'.table (ap (λ (u : Standing). u.table) e), subst (λ u. LawfulState u.table) (sym e) l)
+still : (s s' : RunState) → s' ≡ s → LawfulState s.table → Led s.table s'.table × LawfulState s'.table
+still s s' e l = (eq_led s.table s'.table (ap (λ (u : RunState). u.table) e), subst (λ u. LawfulState u.table) (sym e) l)
 
-line_led : (limits : Limits) (s : Standing) (kind : Kind) (told : List Reply) (s' : Standing) → InRange limits → LawfulState s.table → Replied limits s kind told s' → Led s.table s'.table × LawfulState s'.table
+line_led : (limits : Limits) (s : RunState) (kind : LineKind) (told : List Reply) (s' : RunState) → InRange limits → LawfulState s.table → Replied limits s kind told s' → Led s.table s'.table × LawfulState s'.table
 line_led limits s too_long told s' range l h = still s s' h.1 l
 line_led limits s blank told s' range l h = still s s' h.1 l
 line_led limits s (form None) told s' range l h = still s s' h.1 l
 line_led limits s (form (Some r)) told s' range l h = (from_led limits s r h.0 s' range l h.2, from_keeps limits s r h.0 s' l h.2)
 
-replies_led : (limits : Limits) (s : Standing) (kinds : List Kind) (told : List Reply) (s' : Standing) → InRange limits → LawfulState s.table → Replies limits s kinds told s' → Led s.table s'.table
-replies_led limits s [] told s' range l h = eq_led s.table s'.table (ap (λ (u : Standing). u.table) h.1)
+replies_led : (limits : Limits) (s : RunState) (kinds : List LineKind) (told : List Reply) (s' : RunState) → InRange limits → LawfulState s.table → Replies limits s kinds told s' → Led s.table s'.table
+replies_led limits s [] told s' range l h = eq_led s.table s'.table (ap (λ (u : RunState). u.table) h.1)
 replies_led limits s (kind ∷ kinds) told s' range l h =
     let now : Led s.table h.0.table × LawfulState h.0.table = line_led limits s kind h.1 h.0 range l h.3 in
     both_led s.table h.0.table s'.table now.0 (replies_led limits h.0 kinds h.2 s' range now.1 h.4)
 
-pub request_steps : (limits : Limits) (s : Standing) (r : Request) (told : Reply) (s' : Standing) → InRange limits → LawfulState s.table → AnswersFrom limits s r told s' → AreSteps (length s.table.world.names) s.table s'.table
+pub request_steps : (limits : Limits) (s : RunState) (r : Request) (told : Reply) (s' : RunState) → InRange limits → LawfulState s.table → AnswersFrom limits s r told s' → AreSteps (length s.table.world.names) s.table s'.table
 request_steps limits s r told s' range l h = (from_led limits s r told s' range l h).steps
 
-pub lines_steps : (limits : Limits) (s : Standing) (kinds : List Kind) (told : List Reply) (s' : Standing) → InRange limits → LawfulState s.table → Replies limits s kinds told s' → AreSteps (length s.table.world.names) s.table s'.table
+pub lines_steps : (limits : Limits) (s : RunState) (kinds : List LineKind) (told : List Reply) (s' : RunState) → InRange limits → LawfulState s.table → Replies limits s kinds told s' → AreSteps (length s.table.world.names) s.table s'.table
 lines_steps limits s kinds told s' range l h = (replies_led limits s kinds told s' range l h).steps
 
 -- ---- The start.
@@ -215,7 +215,7 @@ numbers_length k zero = refl
 numbers_length k (suc count) = ap suc (numbers_length (suc k) count)
 
 -- a state without flights has a core
-pub rests_mirror : (n : ℕ) (t : TableState) → ((p : ℕ) → p ≤ n → flights_of t.world t.flights p ≡ []) → Mirrors n t (opened (map (skeletons_of t.world) (numbers_from 0 (n + 1))))
+pub rests_mirror : (n : ℕ) (t : TableState) → ((p : ℕ) → p ≤ n → flights_of t.world t.flights p ≡ []) → Mirrors n t (resting_core (map (skeletons_of t.world) (numbers_from 0 (n + 1))))
 rests_mirror n t none =
     record {
       rows = length-map (map (skeletons_of t.world) (numbers_from 0 (n + 1))) resting_row ∙ length-map (numbers_from 0 (n + 1)) (skeletons_of t.world) ∙ numbers_length 0 (n + 1);

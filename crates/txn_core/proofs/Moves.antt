@@ -9,7 +9,7 @@ use Rattle.txn_model.proofs.Laws.Tests.{and_l, and_r, and_both}
 use Rattle.txn_core.specs.declared.step.CoreRow.{CoreRow}
 use Rattle.txn_core.specs.declared.step.CoreStep.{CoreStep}
 use Rattle.txn_core.specs.declared.step.CoreStep.TheVariants as act
-use Rattle.txn_core.specs.Steps.{CoreState, no_row, row_of, flight_of, with_row, is_flying, may_start, can, start_row, settle_row, stop_row, after, run}
+use Rattle.txn_core.specs.Steps.{CoreState, no_row, row_of, flight_of, with_row, is_flying, may_start, can, start_row, settle_row, stop_row, core_after, run}
 use Rattle.txn_core.specs.Worlds.{skeletons_of, flights_of}
 use Rattle.txn_core.specs.Tables.{row_by, row_in, Mirrors, all_can, Reaches, AreSteps}
 
@@ -21,14 +21,14 @@ pub record Moves (n : ℕ) (s : CoreState) (p : ℕ) (r : CoreRow) : Type 0 wher
   pub here : row_of (run n steps s) p ≡ r
   pub others : (q : ℕ) → q ≢ p → row_of (run n steps s) q ≡ row_of s q
 
-pub run_one : (n : ℕ) (s : CoreState) (step : CoreStep) (steps : List CoreStep) → can n s step ≡ true → run n (step ∷ steps) s ≡ run n steps (after s step)
-run_one n s step steps h = ap (λ b. run n steps (if b then after s step else s)) h
+pub run_one : (n : ℕ) (s : CoreState) (step : CoreStep) (steps : List CoreStep) → can n s step ≡ true → run n (step ∷ steps) s ≡ run n steps (core_after s step)
+run_one n s step steps h = ap (λ b. run n steps (if b then core_after s step else s)) h
 
 -- a row that is so already
 pub moves_none : (n : ℕ) (s : CoreState) (p : ℕ) (r : CoreRow) → row_of s p ≡ r → Moves n s p r
 moves_none n s p r e = record { steps = []; allowed = refl; rows = refl; here = e; others = λ q m. refl }
 
-module _ (n : ℕ) (s : CoreState) (step : CoreStep) (p : ℕ) (mid r : CoreRow) (c : can n s step ≡ true) (e : after s step ≡ with_row s p mid) (m : Moves n (with_row s p mid) p r) where
+module _ (n : ℕ) (s : CoreState) (step : CoreStep) (p : ℕ) (mid r : CoreRow) (c : can n s step ≡ true) (e : core_after s step ≡ with_row s p mid) (m : Moves n (with_row s p mid) p r) where
   ends : run n (step ∷ m.steps) s ≡ run n m.steps (with_row s p mid)
   ends = run_one n s step m.steps c ∙ ap (run n m.steps) e
 
@@ -36,7 +36,7 @@ module _ (n : ℕ) (s : CoreState) (step : CoreStep) (p : ℕ) (mid r : CoreRow)
   moves_then =
       record {
         steps = step ∷ m.steps;
-        allowed = and_both (can n s step) (all_can n (after s step) m.steps) c (subst (λ u. all_can n u m.steps ≡ true) (sym e) m.allowed);
+        allowed = and_both (can n s step) (all_can n (core_after s step) m.steps) c (subst (λ u. all_can n u m.steps ≡ true) (sym e) m.allowed);
         rows = ap (λ (u : CoreState). length u.rows) ends ∙ m.rows ∙ length-set s.rows p mid;
         here = ap (λ u. row_of u p) ends ∙ m.here;
         others = λ q d. ap (λ u. row_of u q) ends ∙ m.others q d ∙ get_or-set_other s.rows p q mid no_row d;
@@ -135,10 +135,10 @@ same_steps n t t' e f =
 runs_on : (n : ℕ) (s : CoreState) (xs ys : List CoreStep) → all_can n s xs ≡ true → all_can n (run n xs s) ys ≡ true → (all_can n s (xs ++ ys) ≡ true) × (run n (xs ++ ys) s ≡ run n ys (run n xs s))
 runs_on n s [] ys a b = (b, refl)
 runs_on n s (x ∷ xs) ys a b =
-    let now : can n s x ≡ true = and_l (can n s x) (all_can n (after s x) xs) a in
-    let one : run n (x ∷ xs) s ≡ run n xs (after s x) = run_one n s x xs now in
-    let rest = runs_on n (after s x) xs ys (and_r (can n s x) (all_can n (after s x) xs) a) (subst (λ u. all_can n u ys ≡ true) one b) in
-    (and_both (can n s x) (all_can n (after s x) (xs ++ ys)) now rest.0, run_one n s x (xs ++ ys) now ∙ rest.1 ∙ ap (run n ys) (sym one))
+    let now : can n s x ≡ true = and_l (can n s x) (all_can n (core_after s x) xs) a in
+    let one : run n (x ∷ xs) s ≡ run n xs (core_after s x) = run_one n s x xs now in
+    let rest = runs_on n (core_after s x) xs ys (and_r (can n s x) (all_can n (core_after s x) xs) a) (subst (λ u. all_can n u ys ≡ true) one b) in
+    (and_both (can n s x) (all_can n (core_after s x) (xs ++ ys)) now rest.0, run_one n s x (xs ++ ys) now ∙ rest.1 ∙ ap (run n ys) (sym one))
 
 pub both_reach : (n : ℕ) (a b c : TableState) → AreSteps n a b → AreSteps n b c → AreSteps n a c
 both_reach n a b c f g s k =

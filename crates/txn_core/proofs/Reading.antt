@@ -13,7 +13,7 @@ use Rattle.txn_model.specs.VisiblePlaces.{visible_places}
 use Rattle.txn_model.proofs.Laws.Topics.{places_are}
 use Rattle.txn_model.proofs.Laws.Lists.{map_append}
 use Rattle.txn_core.specs.Steps.{CoreState, settled_of, from_place, told_places, can}
-use Rattle.txn_core.specs.Reads.{places_of, read_step}
+use Rattle.txn_core.specs.Reads.{message_places, read_step}
 use Rattle.txn_core.proofs.Telling.{prefix_trans}
 
 -- ---- A read gives the first of the visible messages.
@@ -44,26 +44,26 @@ cut_front limits max ms =
 
 -- ---- The same of the places.
 
-kept_step : (first : ℕ) (b : Bool) (m : Message) (ms : List Message) → places_of (if b then m ∷ ms else ms) ≡ (if b then m.place ∷ places_of ms else places_of ms)
+kept_step : (first : ℕ) (b : Bool) (m : Message) (ms : List Message) → message_places (if b then m ∷ ms else ms) ≡ (if b then m.place ∷ message_places ms else message_places ms)
 kept_step first true m ms = refl
 kept_step first false m ms = refl
 
-places_from : (first : ℕ) (ms : List Message) → places_of (filter (λ m. nat_le first m.place) ms) ≡ from_place first (places_of ms)
+places_from : (first : ℕ) (ms : List Message) → message_places (filter (λ m. nat_le first m.place) ms) ≡ from_place first (message_places ms)
 places_from first [] = refl
 places_from first (m ∷ ms) =
     kept_step first (nat_le first m.place) m (filter (λ k. nat_le first k.place) ms)
     ∙ ap (λ l. if nat_le first m.place then m.place ∷ l else l) (places_from first ms)
 
 -- the visible messages from a place on have the visible places from there on
-from_are : (first : ℕ) (es : List TopicEntry) → places_of (filter (λ m. nat_le first m.place) (visible_of es)) ≡ from_place first (visible_places (topic_skeletons es))
+from_are : (first : ℕ) (es : List TopicEntry) → message_places (filter (λ m. nat_le first m.place) (visible_of es)) ≡ from_place first (visible_places (topic_skeletons es))
 from_are first es = places_from first (visible_of es) ∙ ap (from_place first) (places_are es)
 
-places_front : (xs ys : List Message) → IsPrefix xs ys → IsPrefix (places_of xs) (places_of ys)
-places_front xs ys p = (places_of p.0, sym (map_append (λ m. m.place) xs p.0) ∙ ap places_of p.1)
+places_front : (xs ys : List Message) → IsPrefix xs ys → IsPrefix (message_places xs) (message_places ys)
+places_front xs ys p = (message_places p.0, sym (map_append (λ m. m.place) xs p.0) ∙ ap message_places p.1)
 
-read_front : (limits : Limits) (es : List TopicEntry) (first max : ℕ) → IsPrefix (places_of (read_slice limits es first max)) (from_place first (visible_places (topic_skeletons es)))
+read_front : (limits : Limits) (es : List TopicEntry) (first max : ℕ) → IsPrefix (message_places (read_slice limits es first max)) (from_place first (visible_places (topic_skeletons es)))
 read_front limits es first max =
-    subst (λ l. IsPrefix (places_of (read_slice limits es first max)) l) (from_are first es)
+    subst (λ l. IsPrefix (message_places (read_slice limits es first max)) l) (from_are first es)
     (places_front (read_slice limits es first max) (filter (λ m. nat_le first m.place) (visible_of es)) (cut_front limits max (filter (λ m. nat_le first m.place) (visible_of es))))
 
 front_taken : (xs more : List ℕ) → xs ≡ take (length xs) (xs ++ more)
@@ -76,21 +76,21 @@ front_fits (x ∷ xs) more =
     let h : length xs ≤ length (xs ++ more) = leb-true (length xs) (length (xs ++ more)) (front_fits xs more) in
     le-leb (suc (length xs)) (suc (length (xs ++ more))) (omega (arith, h))
 
-pub read_told : (limits : Limits) (es : List TopicEntry) (first max : ℕ) → places_of (read_slice limits es first max) ≡ told_places (topic_skeletons es) first (length (read_slice limits es first max))
+pub read_told : (limits : Limits) (es : List TopicEntry) (first max : ℕ) → message_places (read_slice limits es first max) ≡ told_places (topic_skeletons es) first (length (read_slice limits es first max))
 read_told limits es first max =
     let slice : List Message = read_slice limits es first max in
-    let p : IsPrefix (places_of slice) (from_place first (visible_places (topic_skeletons es))) = read_front limits es first max in
-    front_taken (places_of slice) p.0
-    ∙ ap (take (length (places_of slice))) p.1
+    let p : IsPrefix (message_places slice) (from_place first (visible_places (topic_skeletons es))) = read_front limits es first max in
+    front_taken (message_places slice) p.0
+    ∙ ap (take (length (message_places slice))) p.1
     ∙ ap (λ k. take k (from_place first (visible_places (topic_skeletons es)))) (length-map slice (λ m. m.place))
 
 read_fits : (limits : Limits) (es : List TopicEntry) (first max : ℕ) → nat_le (length (read_slice limits es first max)) (length (from_place first (visible_places (topic_skeletons es)))) ≡ true
 read_fits limits es first max =
     let slice : List Message = read_slice limits es first max in
-    let p : IsPrefix (places_of slice) (from_place first (visible_places (topic_skeletons es))) = read_front limits es first max in
+    let p : IsPrefix (message_places slice) (from_place first (visible_places (topic_skeletons es))) = read_front limits es first max in
     ap (λ k. nat_le k (length (from_place first (visible_places (topic_skeletons es))))) (sym (length-map slice (λ m. m.place)))
-    ∙ ap (λ l. nat_le (length (places_of slice)) (length l)) (sym p.1)
-    ∙ front_fits (places_of slice) p.0
+    ∙ ap (λ l. nat_le (length (message_places slice)) (length l)) (sym p.1)
+    ∙ front_fits (message_places slice) p.0
 
 pub read_can : (n : ℕ) (s : CoreState) (limits : Limits) (es : List TopicEntry) (topic first max : ℕ) → settled_of s topic ≡ topic_skeletons es → can n s (read_step limits es topic first max) ≡ true
 read_can n s limits es topic first max e =

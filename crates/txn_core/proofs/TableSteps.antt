@@ -13,10 +13,10 @@ use Rattle.txn_model.specs.Skeletons.{coord_skeleton, topic_skeleton, ack_skelet
 use Rattle.txn_model.specs.Names.{name_of}
 use Rattle.txn_model.specs.Coord.{in_parts, decision_of, CoordLawful}
 use Rattle.txn_model.specs.Topic.{marker_of}
-use Rattle.txn_model.specs.World.{log_of, part_skeletons, has_inside, Flights, no_flights, kept}
-use Rattle.txn_model.specs.Table.{TableState, Batch, nothing, in_coord, in_topic, in_sub, batch_part, world_with, flights_with, flights_without, settled, fenced_by, resolved, rebuilt, is_fenced}
+use Rattle.txn_model.specs.World.{log_of, part_skeletons, has_inside, Flights, no_flights, with_kept}
+use Rattle.txn_model.specs.Table.{TableState, EntryBatch, nothing, in_coord, in_topic, in_sub, batch_part, world_with, flights_with, flights_without, with_batch, with_failed_batch, resolved, rebuilt, is_unrebuilt}
 use Rattle.txn_model.specs.Shape.{IsFor, is_topic, topic_parts, sub_parts}
-use Rattle.txn_model.specs.Allowed.{flight_skeletons, IsAllowed, IsWhole, LawfulState}
+use Rattle.txn_model.specs.Allowed.{flight_skeletons, IsAllowed, IsPartRebuilt, LawfulState}
 use Rattle.txn_model.proofs.Laws.Lists.{map_append, at_append}
 use Rattle.txn_model.proofs.Laws.Logs.{parts_stay}
 use Rattle.txn_model.proofs.Laws.Names.{named_part, numbered_within, not_both_kinds}
@@ -25,8 +25,8 @@ use Rattle.txn_core.specs.declared.step.CoreRow.{CoreRow}
 use Rattle.txn_core.specs.Together.{IsAlone}
 use Rattle.txn_core.specs.Steps.{CoreState, row_of, settled_of, may_start}
 use Rattle.txn_core.specs.Worlds.{skeletons_of, flights_of}
-use Rattle.txn_core.specs.Kept.{Stands}
-use Rattle.txn_core.specs.Tables.{row_by, row_in, Mirrors, Reaches, AreSteps, entries_of, IsShort}
+use Rattle.txn_core.specs.Kept.{StandTogether}
+use Rattle.txn_core.specs.Tables.{row_by, row_in, Mirrors, Reaches, AreSteps, batch_skeletons, FitsOneBatch}
 use Rattle.txn_core.proofs.Asked.{parts_within}
 use Rattle.txn_core.proofs.Worlds.{world_stands, kept_skeletons}
 use Rattle.txn_core.proofs.Moves.{Moves, moves_none, write_moves, start_moves, stop_moves, within_rows, moved_reaches, same_reaches, same_steps, both_reach}
@@ -59,12 +59,12 @@ set_else : {A : Type 0} (f : ℕ → A) (p : ℕ) (x : A) (q : ℕ) → q ≢ p 
 set_else f p x q d = ap (λ b. if b then x else f q) (ne_eqb q p d)
 
 -- what a batch adds to the list of its part, and what is then in flight there, is the batch; the other parts have what they had
-record Adds (b : Batch) (w : World) (f : Flights) (p : ℕ) : Type 0 where
-  here : skeletons_of (world_with b w) p ≡ skeletons_of w p ++ entries_of b
+record Adds (b : EntryBatch) (w : World) (f : Flights) (p : ℕ) : Type 0 where
+  here : skeletons_of (world_with b w) p ≡ skeletons_of w p ++ batch_skeletons b
   flight_still : (g : Flights) → flights_of (world_with b w) g p ≡ flights_of w g p
   others : (q : ℕ) → q ≢ p → skeletons_of (world_with b w) q ≡ skeletons_of w q
   others_still : (g : Flights) (q : ℕ) → flights_of (world_with b w) g q ≡ flights_of w g q
-  flight_here : (g : Flights) → flights_of w (flights_with b g) p ≡ entries_of b
+  flight_here : (g : Flights) → flights_of w (flights_with b g) p ≡ batch_skeletons b
   flight_else : (q : ℕ) → q ≢ p → flights_of w (flights_with b f) q ≡ flights_of w f q
 
 coord_adds : (w : World) (f : Flights) (e : CoordEntry) → Adds (in_coord e) w f 0
@@ -105,7 +105,7 @@ sub_adds w f p e z k =
 
 -- ---- Where a batch is for.
 
-record Place (b : Batch) (t : TableState) (p : ℕ) : Type 0 where
+record Place (b : EntryBatch) (t : TableState) (p : ℕ) : Type 0 where
   high : p ≤ length t.world.names
   resting : flights_of t.world t.flights p ≡ []
   adds : Adds b t.world t.flights p
@@ -117,7 +117,7 @@ by_kind : (w : World) (p : ℕ) → 1 ≤ p → p ≤ length w.names → (b : Bo
 by_kind w p low high true e = ((λ h. absurd (not_both_kinds 1 p w.names h (named_part is_sub w.names p low high e))), (λ h. refl))
 by_kind w p low high false e = ((λ h. refl), (λ h. absurd (not_both_kinds 1 p w.names (named_part is_topic w.names p low high (ap not e)) h)))
 
-topic_place : (t : TableState) (p : ℕ) (es : List TopicEntry) → LawfulState t → has (topic_parts t.world.names) p ≡ true → is_fenced t p ≡ false → Place (in_topic p es) t p
+topic_place : (t : TableState) (p : ℕ) (es : List TopicEntry) → LawfulState t → has (topic_parts t.world.names) p ≡ true → is_unrebuilt t p ≡ false → Place (in_topic p es) t p
 topic_place t p es l h f =
     let r = numbered_within is_topic 1 p t.world.names h in
     let high : p ≤ length t.world.names = omega (arith, r.1) in
@@ -125,11 +125,11 @@ topic_place t p es l h f =
     let z : (p == 0) ≡ false = not_zero p r.0 in
     record {
       high = high;
-      resting = flight_topic t.world t.flights p z k ∙ ap topic_skeletons (l.fenced.topics p f);
+      resting = flight_topic t.world t.flights p z k ∙ ap topic_skeletons (l.unrebuilt.topics p f);
       adds = topic_adds t.world t.flights p es z k;
     }
 
-sub_place : (t : TableState) (p : ℕ) (e : AckEntry) → LawfulState t → has (sub_parts t.world.names) p ≡ true → is_fenced t p ≡ false → Place (in_sub p e) t p
+sub_place : (t : TableState) (p : ℕ) (e : AckEntry) → LawfulState t → has (sub_parts t.world.names) p ≡ true → is_unrebuilt t p ≡ false → Place (in_sub p e) t p
 sub_place t p e l h f =
     let r = numbered_within is_sub 1 p t.world.names h in
     let high : p ≤ length t.world.names = omega (arith, r.1) in
@@ -137,16 +137,16 @@ sub_place t p e l h f =
     let z : (p == 0) ≡ false = not_zero p r.0 in
     record {
       high = high;
-      resting = flight_sub t.world t.flights p z k ∙ ap ack_skeletons (l.fenced.subs p f);
+      resting = flight_sub t.world t.flights p z k ∙ ap ack_skeletons (l.unrebuilt.subs p f);
       adds = sub_adds t.world t.flights p e z k;
     }
 
-coord_place : (t : TableState) (e : CoordEntry) → LawfulState t → is_fenced t 0 ≡ false → Place (in_coord e) t 0
-coord_place t e l f = record { high = omega arith; resting = ap coord_skeletons (l.fenced.coord f); adds = coord_adds t.world t.flights e }
+coord_place : (t : TableState) (e : CoordEntry) → LawfulState t → is_unrebuilt t 0 ≡ false → Place (in_coord e) t 0
+coord_place t e l f = record { high = omega arith; resting = ap coord_skeletons (l.unrebuilt.coord f); adds = coord_adds t.world t.flights e }
 
 -- ---- The batch may start.
 
-module _ (t : TableState) (s : CoreState) (b : Batch) (p : ℕ) (l : LawfulState t) (a : IsAllowed b t.world) (k : Mirrors (length t.world.names) t s) (place : Place b t p) where
+module _ (t : TableState) (s : CoreState) (b : EntryBatch) (p : ℕ) (l : LawfulState t) (a : IsAllowed b t.world) (k : Mirrors (length t.world.names) t s) (place : Place b t p) where
   settled_is : (q : ℕ) → q ≤ length t.world.names → settled_of s q ≡ skeletons_of t.world q
   settled_is q le = ap (λ (r : CoreRow). r.settled) (k.row q le)
 
@@ -156,18 +156,18 @@ module _ (t : TableState) (s : CoreState) (b : Batch) (p : ℕ) (l : LawfulState
   log_is : settled_of s 0 ≡ log_of t.world
   log_is = settled_is 0 (omega arith)
 
-  part_starts : (p == 0) ≡ false → length (flights_with b no_flights).coord ≤ 1 → 1 ≤ length (entries_of b) → length (entries_of b) ≤ 64 → may_start (length t.world.names) s p (entries_of b) ≡ true
+  part_starts : (p == 0) ≡ false → length (flights_with b no_flights).coord ≤ 1 → 1 ≤ length (batch_skeletons b) → length (batch_skeletons b) ≤ 64 → may_start (length t.world.names) s p (batch_skeletons b) ≡ true
   part_starts z one some few =
-      part_may_start (length t.world.names) s p (entries_of b) (within_rows (length t.world.names) t s p k place.high) (ap (λ (r : CoreRow). r.flight) row_rests)
+      part_may_start (length t.world.names) s p (batch_skeletons b) (within_rows (length t.world.names) t s p k place.high) (ap (λ (r : CoreRow). r.flight) row_rests)
       (subst (IsAlone (length t.world.names) p) (sym whole) (st.alone p)) z some few
       (λ x h. subst (λ c. in_parts c x p ≡ true) (sym log_is) (st.registered p x (subst (λ m. has_inside m x ≡ true) whole h)))
       (λ x d h. subst (λ c. decision_of c x ≡ Some d) (sym log_is) (st.decided p x d (subst (λ m. marker_of m x ≡ Some d) whole h)))
     where
-      st : Stands (length t.world.names) (skeletons_of t.world) (flights_of t.world (flights_with b no_flights))
+      st : StandTogether (length t.world.names) (skeletons_of t.world) (flights_of t.world (flights_with b no_flights))
       st = world_stands t.world (flights_with b no_flights) l.lawful a one
 
-      whole : settled_of s p ++ entries_of b ≡ skeletons_of t.world p ++ flights_of t.world (flights_with b no_flights) p
-      whole = ap (λ m. m ++ entries_of b) (settled_is p place.high) ∙ ap (λ m. skeletons_of t.world p ++ m) (sym (place.adds.flight_here no_flights))
+      whole : settled_of s p ++ batch_skeletons b ≡ skeletons_of t.world p ++ flights_of t.world (flights_with b no_flights) p
+      whole = ap (λ m. m ++ batch_skeletons b) (settled_is p place.high) ∙ ap (λ m. skeletons_of t.world p ++ m) (sym (place.adds.flight_here no_flights))
 
 -- the coordinator's
 coord_starts : (t : TableState) (s : CoreState) (e : CoordEntry) → LawfulState t → IsAllowed (in_coord e) t.world → Mirrors (length t.world.names) t s → Place (in_coord e) t 0
@@ -193,19 +193,19 @@ moves_or_none : (n : ℕ) (s : CoreState) (p : ℕ) (es fs : List CoreEntry) (mo
 moves_or_none n s p es [] more e m = moves_none n s p (more []) e
 moves_or_none n s p es (f ∷ fs) more e m = m (omega arith)
 
--- ---- Settled and fenced.
+-- ---- Batches that settle, and batches whose append fails.
 
-module _ (t : TableState) (b : Batch) (p : ℕ) (place : Place b t p)
-    (starts : (s : CoreState) → Mirrors (length t.world.names) t s → 1 ≤ length (entries_of b) → may_start (length t.world.names) s p (entries_of b) ≡ true) where
+module _ (t : TableState) (b : EntryBatch) (p : ℕ) (place : Place b t p)
+    (starts : (s : CoreState) → Mirrors (length t.world.names) t s → 1 ≤ length (batch_skeletons b) → may_start (length t.world.names) s p (batch_skeletons b) ≡ true) where
   rests : (s : CoreState) → Mirrors (length t.world.names) t s → row_of s p ≡ row_by (skeletons_of t.world p) [] false
   rests s k = k.row p place.high ∙ ap (λ f. row_by (skeletons_of t.world p) f false) place.resting
 
-  settled_reaches : AreSteps (length t.world.names) t (settled b t)
+  settled_reaches : AreSteps (length t.world.names) t (with_batch b t)
   settled_reaches s k =
       let n = length t.world.names in
       let es = skeletons_of t.world p in
-      let fs = entries_of b in
-      moved_reaches n t (settled b t) s p (row_by (es ++ fs) [] false) k
+      let fs = batch_skeletons b in
+      moved_reaches n t (with_batch b t) s p (row_by (es ++ fs) [] false) k
       (moves_or_none n s p es fs (λ l. row_by (es ++ l) [] false) (rests s k ∙ ap (λ l. row_by l [] false) (sym (append-nil es)))
       (λ some. write_moves n s p es fs (within_rows n t s p k place.high) (rests s k) (starts s k some)))
       (ap (λ l. row_by l [] false) (sym place.adds.here)
@@ -213,20 +213,20 @@ module _ (t : TableState) (b : Batch) (p : ℕ) (place : Place b t p)
       (λ q d le. ap (λ l. row_by l (flights_of t.world t.flights q) false) (sym (place.adds.others q d))
       ∙ ap (λ l. row_by (skeletons_of (world_with b t.world) q) l false) (sym (place.adds.others_still t.flights q)))
 
-  fenced_reaches : AreSteps (length t.world.names) t (fenced_by b p t)
-  fenced_reaches s k =
+  failed_reaches : AreSteps (length t.world.names) t (with_failed_batch b p t)
+  failed_reaches s k =
       let n = length t.world.names in
       let es = skeletons_of t.world p in
-      let fs = entries_of b in
-      moved_reaches n t (fenced_by b p t) s p (row_by es fs false) k
+      let fs = batch_skeletons b in
+      moved_reaches n t (with_failed_batch b p t) s p (row_by es fs false) k
       (moves_or_none n s p es fs (λ l. row_by es l false) (rests s k)
       (λ some. start_moves n s p es fs (within_rows n t s p k place.high) (rests s k) (starts s k some)))
       (ap (λ l. row_by es l false) (sym (place.adds.flight_here t.flights)))
       (λ q d le. ap (λ l. row_by (skeletons_of t.world q) l false) (sym (place.adds.flight_else q d)))
 
-record Both (b : Batch) (t : TableState) : Type 0 where
-  settles : AreSteps (length t.world.names) t (settled b t)
-  fences : (p : ℕ) → batch_part b ≡ Some p → AreSteps (length t.world.names) t (fenced_by b p t)
+record Both (b : EntryBatch) (t : TableState) : Type 0 where
+  settles : AreSteps (length t.world.names) t (with_batch b t)
+  fails : (p : ℕ) → batch_part b ≡ Some p → AreSteps (length t.world.names) t (with_failed_batch b p t)
 
 some_is : (p q : ℕ) → Some p ≡ Some q → p ≡ q
 some_is p q h = cc h
@@ -234,16 +234,16 @@ some_is p q h = cc h
 none_is_some : (q : ℕ) → None ≡ Some q → ⊥
 none_is_some q h = cc h
 
-both_of : (b : Batch) (t : TableState) (p : ℕ) → batch_part b ≡ Some p → Place b t p
-    → ((s : CoreState) → Mirrors (length t.world.names) t s → 1 ≤ length (entries_of b) → may_start (length t.world.names) s p (entries_of b) ≡ true) → Both b t
+both_of : (b : EntryBatch) (t : TableState) (p : ℕ) → batch_part b ≡ Some p → Place b t p
+    → ((s : CoreState) → Mirrors (length t.world.names) t s → 1 ≤ length (batch_skeletons b) → may_start (length t.world.names) s p (batch_skeletons b) ≡ true) → Both b t
 both_of b t p e place starts =
     record {
       settles = settled_reaches t b p place starts;
-      fences = λ q h. subst (λ j. AreSteps (length t.world.names) t (fenced_by b j t)) (some_is p q (sym e ∙ h)) (fenced_reaches t b p place starts);
+      fails = λ q h. subst (λ j. AreSteps (length t.world.names) t (with_failed_batch b j t)) (some_is p q (sym e ∙ h)) (failed_reaches t b p place starts);
     }
 
-batch_steps : (b : Batch) (t : TableState) → LawfulState t → IsFor b t.world.names → IsWhole b t → IsAllowed b t.world → IsShort b → Both b t
-batch_steps nothing t l for whole a short = record { settles = same_reaches (length t.world.names) t (settled nothing t) (λ q le. refl); fences = λ q h. absurd (none_is_some q h) }
+batch_steps : (b : EntryBatch) (t : TableState) → LawfulState t → IsFor b t.world.names → IsPartRebuilt b t → IsAllowed b t.world → FitsOneBatch b → Both b t
+batch_steps nothing t l for whole a short = record { settles = same_reaches (length t.world.names) t (with_batch nothing t) (λ q le. refl); fails = λ q h. absurd (none_is_some q h) }
 batch_steps (in_coord e) t l for whole a short =
     both_of (in_coord e) t 0 refl (coord_place t e l whole) (λ s k some. coord_starts t s e l a k (coord_place t e l whole))
 batch_steps (in_topic p es) t l for whole a short =
@@ -253,11 +253,11 @@ batch_steps (in_sub p e) t l for whole a short =
     let place = sub_place t p e l for whole in
     both_of (in_sub p e) t p refl place (λ s k some. part_starts t s (in_sub p e) p l a k place (not_zero p (numbered_within is_sub 1 p t.world.names for).0) (omega arith) some short)
 
-pub settled_steps : (b : Batch) (t : TableState) → LawfulState t → IsFor b t.world.names → IsWhole b t → IsAllowed b t.world → IsShort b → AreSteps (length t.world.names) t (settled b t)
+pub settled_steps : (b : EntryBatch) (t : TableState) → LawfulState t → IsFor b t.world.names → IsPartRebuilt b t → IsAllowed b t.world → FitsOneBatch b → AreSteps (length t.world.names) t (with_batch b t)
 settled_steps b t l for whole a short = (batch_steps b t l for whole a short).settles
 
-pub fenced_steps : (b : Batch) (p : ℕ) (t : TableState) → batch_part b ≡ Some p → LawfulState t → IsFor b t.world.names → IsWhole b t → IsAllowed b t.world → IsShort b → AreSteps (length t.world.names) t (fenced_by b p t)
-fenced_steps b p t e l for whole a short = (batch_steps b t l for whole a short).fences p e
+pub failed_steps : (b : EntryBatch) (p : ℕ) (t : TableState) → batch_part b ≡ Some p → LawfulState t → IsFor b t.world.names → IsPartRebuilt b t → IsAllowed b t.world → FitsOneBatch b → AreSteps (length t.world.names) t (with_failed_batch b p t)
+failed_steps b p t e l for whole a short = (batch_steps b t l for whole a short).fails p e
 
 -- ---- Resolved.
 
@@ -293,13 +293,13 @@ module _ (p : ℕ) (t : TableState) (l : LawfulState t) where
   resolved_here : (stays : Bool) → p ≤ length t.world.names → row_by (if stays then S p ++ F p else S p) [] false ≡ row_in (resolved p stays t) p
   resolved_here true le =
       ap (λ m. row_by m [] false) (sym (kept_skeletons t.world t.flights (λ q. q == p) l.shaped p le ∙ ap (λ b. if b then S p ++ F p else S p) (eq-eqb p p refl)))
-      ∙ ap (λ m. row_by (skeletons_of (kept t.world t.flights (λ q. q == p)) p) m false) (sym (without_here t.world t.flights p))
+      ∙ ap (λ m. row_by (skeletons_of (with_kept t.world t.flights (λ q. q == p)) p) m false) (sym (without_here t.world t.flights p))
   resolved_here false le = ap (λ m. row_by (S p) m false) (sym (without_here t.world t.flights p))
 
   resolved_else : (stays : Bool) (q : ℕ) → q ≢ p → q ≤ length t.world.names → row_in t q ≡ row_in (resolved p stays t) q
   resolved_else true q d le =
       ap (λ m. row_by m (F q) false) (sym (kept_skeletons t.world t.flights (λ j. j == p) l.shaped q le ∙ ap (λ b. if b then S q ++ F q else S q) (ne_eqb q p d)))
-      ∙ ap (λ m. row_by (skeletons_of (kept t.world t.flights (λ j. j == p)) q) m false) (sym (without_else t.world t.flights p q d))
+      ∙ ap (λ m. row_by (skeletons_of (with_kept t.world t.flights (λ j. j == p)) q) m false) (sym (without_else t.world t.flights p q d))
   resolved_else false q d le = ap (λ m. row_by (S q) m false) (sym (without_else t.world t.flights p q d))
 
   pub resolved_steps : (stays : Bool) → AreSteps (length t.world.names) t (resolved p stays t)

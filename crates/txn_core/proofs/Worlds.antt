@@ -17,7 +17,7 @@ use Rattle.txn_model.specs.Names.{name_of}
 use Rattle.txn_model.specs.Coord.{coord_allows, decision_of, says_closing, closing_of, in_parts}
 use Rattle.txn_model.specs.Topic.{marks, marker_of, part_allows, TopicLawful}
 use Rattle.txn_model.specs.Ack.{places_allow, ack_allows, AckLawful}
-use Rattle.txn_model.specs.World.{is_inside, has_inside, log_of, part_skeletons, Lawful, Flights, no_flights, followed, kept}
+use Rattle.txn_model.specs.World.{is_inside, has_inside, log_of, part_skeletons, Lawful, Flights, no_flights, followed, with_kept}
 use Rattle.txn_model.specs.Allowed.{log_with, flight_skeletons, AllowedFlights}
 use Rattle.txn_model.specs.Shape.{Shaped, is_topic, parts_with}
 use Rattle.txn_model.proofs.Laws.Tests.{no_true, and_l, and_r, and_both, or_cases}
@@ -27,7 +27,7 @@ use Rattle.txn_model.proofs.Laws.Names.{named_part}
 use Rattle.txn_model.proofs.Laws.Worlds.{no_flights_allowed}
 use Rattle.txn_core.specs.Together.{AreLawful}
 use Rattle.txn_core.specs.Worlds.{skeletons_of, flights_of}
-use Rattle.txn_core.specs.Kept.{Stands}
+use Rattle.txn_core.specs.Kept.{StandTogether}
 use Rattle.txn_core.proofs.Alone.{none_some, some_cases, inside_cases, first_cases}
 use Rattle.txn_core.proofs.Asked.{parts_within}
 use Rattle.txn_core.proofs.Stops.{stop_lawful}
@@ -129,7 +129,7 @@ module _ (w : World) (f : Flights) (l : Lawful w) (a : AllowedFlights w f) where
   closed_there x d p true e h i = absurd (at_part p x i e)
   closed_there x d p false e h i = closed_with x d p h i
 
-  pub world_stands : length f.coord ≤ 1 → Stands (length w.names) (skeletons_of w) (flights_of w f)
+  pub world_stands : length f.coord ≤ 1 → StandTogether (length w.names) (skeletons_of w) (flights_of w f)
   world_stands one =
       record {
         alone = λ p. alone_with p (p == 0);
@@ -160,7 +160,7 @@ module _ (w : World) (f : Flights) (stays : ℕ → Bool) (shape : Shaped w) whe
       let here : has (parts_with w.topics) p ≡ true = subst (λ ps. has ps p ≡ true) (sym shape.topics) (named_part is_topic w.names p low high (ap not e)) in
       ap topic_skeletons (at_followed stays f.topics w.topics p here) ∙ mapped_if topic_skeleton (stays p) (list_at w.topics p) (f.topics p)
 
-  pub kept_skeletons : (p : ℕ) → p ≤ length w.names → skeletons_of (kept w f stays) p ≡ (if stays p then skeletons_of w p ++ flights_of w f p else skeletons_of w p)
+  pub kept_skeletons : (p : ℕ) → p ≤ length w.names → skeletons_of (with_kept w f stays) p ≡ (if stays p then skeletons_of w p ++ flights_of w f p else skeletons_of w p)
   kept_skeletons p high = go (p == 0) refl
     where
       past : (p == 0) ≡ false → 1 ≤ p
@@ -170,7 +170,7 @@ module _ (w : World) (f : Flights) (stays : ℕ → Bool) (shape : Shaped w) whe
       ]
 
       go : (b : Bool) → (p == 0) ≡ b
-          → (if b then coord_skeletons (if stays 0 then w.coord ++ f.coord else w.coord) else part_skeletons (kept w f stays) p)
+          → (if b then coord_skeletons (if stays 0 then w.coord ++ f.coord else w.coord) else part_skeletons (with_kept w f stays) p)
           ≡ (if stays p then (if b then log_of w else part_skeletons w p) ++ (if b then coord_skeletons f.coord else flight_skeletons w f p) else (if b then log_of w else part_skeletons w p))
       go true e = ap (λ k. coord_skeletons (if stays k then w.coord ++ f.coord else w.coord)) (sym (eqb-true p 0 e)) ∙ mapped_if coord_skeleton (stays p) w.coord f.coord
       go false e = kept_part p (is_sub (name_of w.names p)) refl (past e) high

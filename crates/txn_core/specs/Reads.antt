@@ -8,8 +8,8 @@ use Rattle.txn_core.specs.declared.step.CoreStep.{CoreStep}
 use Rattle.txn_core.specs.declared.step.CoreStep.TheVariants as act
 
 -- The places of messages.
-abbrev pub places_of : List Message → List ℕ
-places_of ms = map (λ m. m.place) ms
+abbrev pub message_places : List Message → List ℕ
+message_places ms = map (λ m. m.place) ms
 
 -- The topic tells as many places as a read of its list gives messages.
 abbrev pub read_step : Limits → List TopicEntry → ℕ → ℕ → ℕ → CoreStep

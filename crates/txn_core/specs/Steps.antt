@@ -116,17 +116,17 @@ abbrev pub stop_row : Bool → CoreRow → CoreRow
 stop_row stays r = record { settled = if stays then r.settled ++ r.flight else r.settled; flight = []; sure = false }
 
 -- The state after a step.
-abbrev pub after : CoreState → CoreStep → CoreState
-after s (act.Start p es) = with_row s p (start_row es (row_of s p))
-after s (act.Settle p) = with_row s p (settle_row (row_of s p))
-after s (act.Stop p stays) = with_row s p (stop_row stays (row_of s p))
-after s (act.Tell topic first count) =
+abbrev pub core_after : CoreState → CoreStep → CoreState
+core_after s (act.Start p es) = with_row s p (start_row es (row_of s p))
+core_after s (act.Settle p) = with_row s p (settle_row (row_of s p))
+core_after s (act.Stop p stays) = with_row s p (stop_row stays (row_of s p))
+core_after s (act.Tell topic first count) =
     record { rows = s.rows; told = s.told ++ record { topic = topic; first = first; places = told_places (settled_of s topic) first count } ∷ [] }
 
 -- The state after these steps, without those that aren't allowed.
 abbrev pub run : ℕ → List CoreStep → CoreState → CoreState
 run n [] s = s
-run n (step ∷ steps) s = run n steps (if can n s step then after s step else s)
+run n (step ∷ steps) s = run n steps (if can n s step then core_after s step else s)
 
 -- The lists that a stop leaves where it keeps the flights of the parts that `stays` names.
 abbrev pub kept_of : CoreState → (ℕ → Bool) → ℕ → List CoreEntry

@@ -2,10 +2,10 @@
 use Rattle.std.specs.Prelude.{◌≡◌, ℕ, ◌+◌, ◌≤◌, ◌&&◌, Bool, true, false, List, [], ◌∷◌, length}
 use Rattle.txn_base.specs.declared.core_entry.CoreEntry.{CoreEntry}
 use Rattle.txn_model.specs.Skeletons.{coord_skeleton, topic_skeletons, ack_skeleton}
-use Rattle.txn_model.specs.Table.{TableState, Batch, nothing, in_coord, in_topic, in_sub}
+use Rattle.txn_model.specs.Table.{TableState, EntryBatch, nothing, in_coord, in_topic, in_sub}
 use Rattle.txn_core.specs.declared.step.CoreRow.{CoreRow}
 use Rattle.txn_core.specs.declared.step.CoreStep.{CoreStep}
-use Rattle.txn_core.specs.Steps.{CoreState, row_of, can, after, run}
+use Rattle.txn_core.specs.Steps.{CoreState, row_of, can, core_after, run}
 use Rattle.txn_core.specs.Worlds.{skeletons_of, flights_of}
 
 -- A row with these settled and these in flight, sure or not.
@@ -24,7 +24,7 @@ pub record Mirrors (n : ℕ) (t : TableState) (s : CoreState) : Type 0 where
 -- Each of the steps is allowed after those before it.
 abbrev pub all_can : ℕ → CoreState → List CoreStep → Bool
 all_can n s [] = true
-all_can n s (step ∷ steps) = can n s step && all_can n (after s step) steps
+all_can n s (step ∷ steps) = can n s step && all_can n (core_after s step) steps
 
 -- From the core s, steps that are all allowed lead to one with the rows of the state.
 pub record Reaches (n : ℕ) (s : CoreState) (t : TableState) : Type 0 where
@@ -37,11 +37,11 @@ abbrev pub AreSteps : ℕ → TableState → TableState → Type 0
 AreSteps n t t' = (s : CoreState) → Mirrors n t s → Reaches n s t'
 
 -- The skeletons of a batch, and that they are no more than one write has.
-abbrev pub entries_of : Batch → List CoreEntry
-entries_of nothing = []
-entries_of (in_coord e) = coord_skeleton e ∷ []
-entries_of (in_topic p es) = topic_skeletons es
-entries_of (in_sub p e) = ack_skeleton e ∷ []
+abbrev pub batch_skeletons : EntryBatch → List CoreEntry
+batch_skeletons nothing = []
+batch_skeletons (in_coord e) = coord_skeleton e ∷ []
+batch_skeletons (in_topic p es) = topic_skeletons es
+batch_skeletons (in_sub p e) = ack_skeleton e ∷ []
 
-abbrev pub IsShort : Batch → Type 0
-IsShort b = length (entries_of b) ≤ 64
+abbrev pub FitsOneBatch : EntryBatch → Type 0
+FitsOneBatch b = length (batch_skeletons b) ≤ 64

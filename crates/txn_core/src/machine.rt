@@ -6,7 +6,7 @@ ghost use Rattle.std.specs.List.{list_all};
 ghost use Rattle.txn_base.specs.declared.core_entry.CoreEntry.{CoreEntry};
 ghost use Rattle.txn_core.specs.declared.step.Told.{Told};
 ghost use Rattle.txn_core.specs.Together.{AreLawful};
-ghost use Rattle.txn_core.specs.Steps.{started, no_row, settled_of, flight_of, kept_of, from_place, can, after, run, is_batch, may_start, may_cross, is_marked, start_row, settle_row, stop_row};
+ghost use Rattle.txn_core.specs.Steps.{started, no_row, settled_of, flight_of, kept_of, from_place, can, core_after, run, is_batch, may_start, may_cross, is_marked, start_row, settle_row, stop_row};
 
 use crate::lists::{decision_of, has_part, marker_of};
 use crate::rules::{is_alone, is_decision};
@@ -179,7 +179,7 @@ impl Core {
     /// Makes a step. An `Err` changes nothing.
     pub fn step(&mut self, step: &CoreStep) -> Result<(), AllocError>
         requires { can 62 self.old step.now ≡ true }
-        ensures ok { OnOk result (self.new ≡ after self.old step.now) }
+        ensures ok { OnOk result (self.new ≡ core_after self.old step.now) }
         ensures err { OnErr result (self.new ≡ self.old) }
     {
         match step {

@@ -16,12 +16,12 @@ use Rattle.txn_model.specs.declared.world.World.{World}
 use Rattle.txn_model.specs.Allowed.{IsAllowed}
 use Rattle.txn_model.specs.Shape.{topic_parts}
 use Rattle.txn_model.specs.Sound.{ledger_file, RecordsOf, StandsForEntries, IsBareRecord, StandsFor}
-use Rattle.txn_model.specs.Table.{Batch, in_coord, in_topic, world_with, flights_with}
+use Rattle.txn_model.specs.Table.{EntryBatch, in_coord, in_topic, world_with, flights_with}
 use Rattle.txn_model.specs.Words.{has, list_at}
 use Rattle.txn_model.specs.World.{Lawful, Extends, no_flights}
 use Rattle.txn_model.proofs.Laws.Files.{coord_append_stands, coord_change_stands, topic_append_stands, topic_change_stands, records_behind}
 use Rattle.txn_model.proofs.Laws.Worlds.{lawful_choice, batch_choice, extends_both, batch_grows}
-use Rattle.txn_buffer.specs.View.{TopicView, batch_of}
+use Rattle.txn_buffer.specs.View.{TopicView, topic_batch}
 use Rattle.txn_coordinator.proofs.Laws.{entry_records}
 use Rattle.txn_coordinator.specs.View.{coord_batch}
 use Rattle.txn_engine.specs.Above.{StandsAbove, KeepsAbove}
@@ -58,8 +58,8 @@ module _ (v : EngineView) (is : IsEngine v) (whole : IsWhole v) (image : Files �
       world_here v is d (coord_backed v is whole image backed d at) (topics_backed 1 v.topics (settled_topics v is whole) image backed.topics d at) above.world above.stands in
       (subst (StandsFor v.names d) same above.stands, subst Lawful same above.lawful, subst (Extends floor) same above.extends)
 
-  with_batch : (floor : World) (c : Files) (b : Batch) → Lawful (world_of v) → Extends floor (world_of v) → IsAllowed b (world_of v) → StandsFor v.names c (world_with b (world_of v)) → StandsAbove v.names floor c
-  with_batch floor c b lawful extends allowed stands = record {
+  stands_with_batch : (floor : World) (c : Files) (b : EntryBatch) → Lawful (world_of v) → Extends floor (world_of v) → IsAllowed b (world_of v) → StandsFor v.names c (world_with b (world_of v)) → StandsAbove v.names floor c
+  stands_with_batch floor c b lawful extends allowed stands = record {
     world = world_with b (world_of v);
     stands = stands;
     lawful = lawful_choice (world_of v) (world_with b (world_of v)) (flights_with b no_flights) (batch_choice b (world_of v)) lawful allowed;
@@ -82,21 +82,21 @@ module _ (v : EngineView) (is : IsEngine v) (whole : IsWhole v) (image : Files �
         (coord_change_stands v.names d c (world_of v) found.0 elsewhere
         (still_stands IsCoordRecord (d (ledger_file 0)) (c (ledger_file 0)) v.coord.content.batches (coord_entries v.coord.content.batches) found.0.coord before (subst (λ (f : FileId). Stands (c f) v.coord.content.batches) is.coord.key none))))
         (λ more.
-        with_batch floor c (in_coord e) found.1 found.2 (allowed found.1)
+        stands_with_batch floor c (in_coord e) found.1 found.2 (allowed found.1)
         (coord_append_stands v.names d c (world_of v) found.0 e elsewhere
         (more_stands IsCoordRecord (d (ledger_file 0)) (c (ledger_file 0)) v.coord.content.batches (coord_entries v.coord.content.batches) found.0.coord before (coord_batch e ∷ []) (e ∷ [])
         (subst (λ (f : FileId). Stands (c f) (v.coord.content.batches ++ coord_batch e ∷ [])) is.coord.key more) (entry_records e fits))))
         step.here
 
   -- entries of a topic
-  module _ (j : ℕ) (below : j < length v.topics) (es : List TopicEntry) (each : RecordsOf IsBareRecord (records (batch_of es ∷ [])) es) (allowed : Lawful (world_of v) → IsAllowed (in_topic (1 + j) es) (world_of v)) where
+  module _ (j : ℕ) (below : j < length v.topics) (es : List TopicEntry) (each : RecordsOf IsBareRecord (records (topic_batch es ∷ [])) es) (allowed : Lawful (world_of v) → IsAllowed (in_topic (1 + j) es) (world_of v)) where
     abbrev topic : TopicView
     topic = get_or v.topics j (some_topic v)
 
     key : topic.content.key ≡ ledger_file (1 + j)
     key = (topic_at v.limits 1 v.topics j (some_topic v) (1 + j) refl below is.topics).key
 
-    pub topic_above : (d c : Files) → image d → Appends IsFile StandsIn topic.content (batch_of es) d c → KeepsAbove v.names d c
+    pub topic_above : (d c : Files) → image d → Appends IsFile StandsIn topic.content (topic_batch es) d c → KeepsAbove v.names d c
     topic_above d c at step floor above =
         let found = above_here floor d at above in
         let elsewhere : Elsewhere (ledger_file (1 + j)) d c = subst (λ (f : FileId). Elsewhere f d c) key step.others in
@@ -112,8 +112,8 @@ module _ (v : EngineView) (is : IsEngine v) (whole : IsWhole v) (image : Files �
         (topic_change_stands v.names d c (world_of v) found.0 (1 + j) named elsewhere
         (still_stands IsBareRecord (d (ledger_file (1 + j))) (c (ledger_file (1 + j))) topic.content.batches (list_at (lists_from 1 v.topics) (1 + j)) old before (subst (λ (f : FileId). Stands (c f) topic.content.batches) key none))))
         (λ more.
-        with_batch floor c (in_topic (1 + j) es) found.1 found.2 (allowed found.1)
+        stands_with_batch floor c (in_topic (1 + j) es) found.1 found.2 (allowed found.1)
         (topic_append_stands v.names d c (world_of v) found.0 (1 + j) es named elsewhere
-        (more_stands IsBareRecord (d (ledger_file (1 + j))) (c (ledger_file (1 + j))) topic.content.batches (list_at (lists_from 1 v.topics) (1 + j)) old before (batch_of es ∷ []) es
-        (subst (λ (f : FileId). Stands (c f) (topic.content.batches ++ batch_of es ∷ [])) key more) each)))
+        (more_stands IsBareRecord (d (ledger_file (1 + j))) (c (ledger_file (1 + j))) topic.content.batches (list_at (lists_from 1 v.topics) (1 + j)) old before (topic_batch es ∷ []) es
+        (subst (λ (f : FileId). Stands (c f) (topic.content.batches ++ topic_batch es ∷ [])) key more) each)))
         step.here

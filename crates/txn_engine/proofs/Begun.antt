@@ -23,7 +23,7 @@ use Rattle.txn_coordinator.specs.declared.error.CoordError.{CoordError}
 use Rattle.txn_coordinator.specs.declared.error.CoordError.TheVariants as coord_error
 use Rattle.txn_coordinator.specs.Calls.{MayFail, refused_full, begin_refusal, add_refusal, add_refusal_at, has_part, with_part, next_txn, log_refusal}
 use Rattle.txn_coordinator.specs.View as coordinator
-use Rattle.txn_coordinator.specs.View.{CoordView, logged, fenced}
+use Rattle.txn_coordinator.specs.View.{CoordView, with_entry, with_failed_entry}
 use Rattle.txn_model.specs.Answers.{Answers, AnswersAt, Succeeds, AppendFails}
 use Rattle.txn_model.specs.Coord.{status_of, in_parts, count_new}
 use Rattle.txn_model.specs.EarlyRows.{early_refusal, is_bad_timeout}
@@ -33,15 +33,15 @@ use Rattle.txn_model.specs.Names.{part_of}
 use Rattle.txn_model.specs.Requests.{number_of}
 use Rattle.txn_model.specs.Skeletons.{coord_skeletons}
 use Rattle.txn_model.specs.Sound.{ledger_file}
-use Rattle.txn_model.specs.Table.{TableState, Batch, nothing, in_coord, settled as with_batch}
+use Rattle.txn_model.specs.Table.{TableState, EntryBatch, nothing, in_coord, with_batch}
 use Rattle.txn_wire.specs.Short.{is_long}
 use Rattle.txn_engine.specs.Kept.{IsEngine, IsCoordinator}
 use Rattle.txn_engine.specs.Refusals.{coord_refusal, begun_reply, added_reply}
 use Rattle.txn_engine.specs.Table.{table_of}
 use Rattle.txn_engine.specs.Told.{MayTell, RoseFor, IsTellable}
 use Rattle.txn_engine.specs.View.{EngineView, IsWhole, IsTied, with_coord}
-use Rattle.txn_engine.proofs.Changed.{coord_added, coord_fenced}
-use Rattle.txn_engine.proofs.Coordinators.{refusal_is, not_refused, logged_is, fenced_is, engine_with, new_allowed, add_allowed}
+use Rattle.txn_engine.proofs.Changed.{coord_added, coord_failed}
+use Rattle.txn_engine.proofs.Coordinators.{refusal_is, not_refused, logged_is, failed_is, engine_with, new_allowed, add_allowed}
 use Rattle.txn_engine.proofs.Rows.{refused_early, refused_late, granted_here, memory_here, early_new, bad_new, begin_row, unknown_add, foreign_add, early_add, add_row, add_number, foreign_status, early_status, no_status, late_status}
 use Rattle.txn_engine.proofs.TopicNames.{coordinator_name}
 use Rattle.txn_engine.proofs.Whole.{whole_world, whole_table, table_is, told_from}
@@ -84,10 +84,10 @@ module _ (v : EngineView) (is : IsEngine v) (whole : IsWhole v) (tied : IsTied v
 
   -- an append of the coordinator that failed
   pub coord_fails : (r : Request) (e : CoordEntry) → IsCoordEntry e → early_refusal limits (whole_world v) r ≡ None → late_refusal limits (whole_table v) r ≡ None → rose 0
-      → (AppendFails rose (in_coord e) (whole_table v) (reply.No (coord_refusal coord_error.Fault)) (table_of (with_coord v (fenced v.coord e))) → Succeeds limits rose (whole_table v) r (reply.No (coord_refusal coord_error.Fault)) (table_of (with_coord v (fenced v.coord e))))
-      → Answers limits rose (whole_table v) r (reply.No (coord_refusal coord_error.Fault)) (table_of (with_coord v (fenced v.coord e)))
+      → (AppendFails rose (in_coord e) (whole_table v) (reply.No (coord_refusal coord_error.Fault)) (table_of (with_coord v (with_failed_entry v.coord e))) → Succeeds limits rose (whole_table v) r (reply.No (coord_refusal coord_error.Fault)) (table_of (with_coord v (with_failed_entry v.coord e))))
+      → Answers limits rose (whole_table v) r (reply.No (coord_refusal coord_error.Fault)) (table_of (with_coord v (with_failed_entry v.coord e)))
   coord_fails r e fits early late cause succeeds =
-      granted_here limits rose v r (reply.No (coord_refusal coord_error.Fault)) (table_of (with_coord v (fenced v.coord e))) early late (succeeds (0, refl, cause, refl, coord_fenced v is whole tied e fits))
+      granted_here limits rose v r (reply.No (coord_refusal coord_error.Fault)) (table_of (with_coord v (with_failed_entry v.coord e))) early late (succeeds (0, refl, cause, refl, coord_failed v is whole tied e fits))
 
 -- ---- A new transaction.
 
@@ -97,7 +97,7 @@ no_fault_full None (Some n) e = cc
 no_fault_full (Some n) b e = cc
 
 pub no_fault_begin : (v : CoordView) (timeout : ℕ) → is_bad_timeout timeout ≡ false → begin_refusal v timeout ≡ Some coord_error.Fault → ⊥
-no_fault_begin v timeout ok e = no_fault_full (full_transactions v.limits v.opened_low (coord_skeletons v.front)) (full_log v.limits (coordinator.length_of v) 1) (sym (rw ok refl) ∙ e)
+no_fault_begin v timeout ok e = no_fault_full (full_transactions v.limits v.opened_low (coord_skeletons v.front)) (full_log v.limits (coordinator.coord_total v) 1) (sym (rw ok refl) ∙ e)
 
 rose_at : (key : FileId) (f g : ℕ) (fs gs : ℕ → ℕ) → key ≡ ledger_file 0 → Rose f g × Rose (fs key.part) (gs key.part) → RoseFor f g fs gs 0
 rose_at key f g fs gs e rose = subst (λ (k : FileId). Rose f g × Rose (fs k.part) (gs k.part)) e rose
@@ -109,8 +109,8 @@ module _ (u : EngineView) (is : IsEngine u) (whole : IsWhole u) (tied : IsTied u
   abbrev entry : CoordEntry
   entry = coord.New (next_txn u.coord) (u.latest + timeout)
 
-  pub begun_told : (result : Result TxnId CoordError) (c' : CoordView) → IsCoordEntry entry → MatchOption (begin_refusal u.coord timeout) (MayFail result) (λ x. result ≡ Err x) → IfOk result (λ x. x ≡ next_txn u.coord) → OnOk result (c' ≡ logged u.coord entry)
-      → (result ≡ Err coord_error.Fault → c' ≡ fenced u.coord entry) → IfErr result (λ e. (e ≡ coord_error.Fault → ⊥) → c' ≡ u.coord) → CountsFaults u.coord.content.key.part f g fs gs (result ≡ Err coord_error.Fault)
+  pub begun_told : (result : Result TxnId CoordError) (c' : CoordView) → IsCoordEntry entry → MatchOption (begin_refusal u.coord timeout) (MayFail result) (λ x. result ≡ Err x) → IfOk result (λ x. x ≡ next_txn u.coord) → OnOk result (c' ≡ with_entry u.coord entry)
+      → (result ≡ Err coord_error.Fault → c' ≡ with_failed_entry u.coord entry) → IfErr result (λ e. (e ≡ coord_error.Fault → ⊥) → c' ≡ u.coord) → CountsFaults u.coord.content.key.part f g fs gs (result ≡ Err coord_error.Fault)
       → IsEngine (with_coord u c') → IsTied (with_coord u c')
       → Answers u.limits rose (table_of u) (request.New timeout) (begun_reply result) (table_of (with_coord u c'))
   begun_told (Ok x) c' fits refused told now fault same cause is' tied' =
@@ -146,7 +146,7 @@ not_ok (Ok u) e is ok = cc
 not_ok (Err x) e is ok = cc
 
 -- The batch of its row, for the part of the number q.
-abbrev pub add_batch : EngineView → TxnId → ℕ → Batch
+abbrev pub add_batch : EngineView → TxnId → ℕ → EntryBatch
 add_batch v x q = if in_parts (coord_skeletons v.coord.front) x q then nothing else in_coord (coord.AddPart x q)
 
 module _ (v : EngineView) (x : TxnId) (part : List ℕ) (p : ℕ) (known : part_of v.names part ≡ Some p) where
@@ -170,7 +170,7 @@ module _ (v : EngineView) (is : IsEngine v) (whole : IsWhole v) (tied : IsTied v
   r = request.Add x part
 
   pub added_told : (result : Result (Unit {0}) CoordError) (c' : CoordView) → IsCoordEntry added_entry → MatchOption (add_refusal v.coord x p) (MayFail result) (λ y. result ≡ Err y) → (add_refusal v.coord x p ≡ None → has_part v.coord x p ≡ true → IsOk result) → OnOk result (c' ≡ with_part v.coord x p)
-      → (result ≡ Err coord_error.Fault → c' ≡ fenced v.coord added_entry) → IfErr result (λ e. (e ≡ coord_error.Fault → ⊥) → c' ≡ v.coord) → CountsFaults v.coord.content.key.part f g fs gs (result ≡ Err coord_error.Fault)
+      → (result ≡ Err coord_error.Fault → c' ≡ with_failed_entry v.coord added_entry) → IfErr result (λ e. (e ≡ coord_error.Fault → ⊥) → c' ≡ v.coord) → CountsFaults v.coord.content.key.part f g fs gs (result ≡ Err coord_error.Fault)
       → IsEngine (with_coord v c') → IsTied (with_coord v c')
       → Answers v.limits rose_add (table_of v) r (added_reply result) (table_of (with_coord v c'))
   added_told (Ok u) c' fits refused repeated now fault same cause is' tied' = by_part (has_part v.coord x p) refl
@@ -186,19 +186,19 @@ module _ (v : EngineView) (is : IsEngine v) (whole : IsWhole v) (tied : IsTied v
           (inl (refl, table_is (with_coord v c') is' whole' tied' ∙ ap (λ (d : CoordView). whole_table (with_coord v d)) eq ∙ grown)))
 
       by_part : (b : Bool) → has_part v.coord x p ≡ b → Answers v.limits rose_add (table_of v) r reply.Add (table_of (with_coord v c'))
-      by_part true has = told v.coord (now ∙ rw has refl) whole.coord (sym (ap (λ (b : Batch). with_batch b (whole_table v)) (batch_none v x part p known has)))
+      by_part true has = told v.coord (now ∙ rw has refl) whole.coord (sym (ap (λ (b : EntryBatch). with_batch b (whole_table v)) (batch_none v x part p known has)))
       by_part false has =
-          told (logged v.coord added_entry) (now ∙ rw has refl) whole.coord
-          (coord_added v is whole tied added_entry (logged v.coord added_entry) refl refl ∙ sym (ap (λ (b : Batch). with_batch b (whole_table v)) (batch_one v x part p known has)))
+          told (with_entry v.coord added_entry) (now ∙ rw has refl) whole.coord
+          (coord_added v is whole tied added_entry (with_entry v.coord added_entry) refl refl ∙ sym (ap (λ (b : EntryBatch). with_batch b (whole_table v)) (batch_one v x part p known has)))
   added_told (Err e) c' fits refused repeated now fault same cause is' tied' =
       error_told v is whole tied v.limits rose_add r (add_refusal v.coord x p) (early_add v.limits v x part p known own) (add_row v is whole x part p known)
-      (no_fault_add (status_of (coord_skeletons v.coord.front) x) (has_part v.coord x p) (full_log v.coord.limits (coordinator.length_of v.coord) 1)) (Err e) refused c' e refl same
+      (no_fault_add (status_of (coord_skeletons v.coord.front) x) (has_part v.coord x p) (full_log v.coord.limits (coordinator.coord_total v.coord) 1)) (Err e) refused c' e refl same
       (λ failed none.
       subst (λ (y : CoordError). Answers v.limits rose_add (whole_table v) r (reply.No (coord_refusal y)) (table_of (with_coord v c'))) (sym failed)
       (subst (λ (c : CoordView). Answers v.limits rose_add (whole_table v) r (reply.No (coord_refusal coord_error.Fault)) (table_of (with_coord v c))) (sym (fault (ap (λ y. Err y) failed)))
       (coord_fails v is whole tied v.limits rose_add r added_entry fits (early_add v.limits v x part p known own) (add_row v is whole x part p known ∙ ap (option_map coord_refusal) none)
       (rose_at v.coord.content.key f g fs gs is.coord.key (cause.failed (ap (λ y. Err y) failed)))
-      (λ fails. inr (subst (λ (b : Batch). AppendFails rose_add b (whole_table v) (reply.No (coord_refusal coord_error.Fault)) (table_of (with_coord v (fenced v.coord added_entry)))) (sym (batch_one v x part p known (fresh (has_part v.coord x p) refl none))) fails)))))
+      (λ fails. inr (subst (λ (b : EntryBatch). AppendFails rose_add b (whole_table v) (reply.No (coord_refusal coord_error.Fault)) (table_of (with_coord v (with_failed_entry v.coord added_entry)))) (sym (batch_one v x part p known (fresh (has_part v.coord x p) refl none))) fails)))))
     where
       fresh : (b : Bool) → has_part v.coord x p ≡ b → add_refusal v.coord x p ≡ None → has_part v.coord x p ≡ false
       fresh true has none = absurd (not_ok (Err e) e refl (repeated none has))
@@ -252,8 +252,8 @@ added_short (Ok u) = refl
 added_short (Err e) = short_refusal e
 
 -- by an error
-pub kept_by : (v : EngineView) → IsEngine v → (c' : CoordView) (entry : CoordEntry) (e : CoordError) → (e ≡ coord_error.Fault → c' ≡ fenced v.coord entry) → ((e ≡ coord_error.Fault → ⊥) → c' ≡ v.coord) → IsCoordinator v.limits (length v.names) c'
-kept_by v is c' entry coord_error.Fault fault same = subst (IsCoordinator v.limits (length v.names)) (sym (fault refl)) (fenced_is v.limits (length v.names) v.coord entry is.coord)
+pub kept_by : (v : EngineView) → IsEngine v → (c' : CoordView) (entry : CoordEntry) (e : CoordError) → (e ≡ coord_error.Fault → c' ≡ with_failed_entry v.coord entry) → ((e ≡ coord_error.Fault → ⊥) → c' ≡ v.coord) → IsCoordinator v.limits (length v.names) c'
+kept_by v is c' entry coord_error.Fault fault same = subst (IsCoordinator v.limits (length v.names)) (sym (fault refl)) (failed_is v.limits (length v.names) v.coord entry is.coord)
 kept_by v is c' entry coord_error.NotFound fault same = subst (IsCoordinator v.limits (length v.names)) (sym (same (λ f. cc))) is.coord
 kept_by v is c' entry (coord_error.NotOpen status) fault same = subst (IsCoordinator v.limits (length v.names)) (sym (same (λ f. cc))) is.coord
 kept_by v is c' entry coord_error.BadTimeout fault same = subst (IsCoordinator v.limits (length v.names)) (sym (same (λ f. cc))) is.coord
@@ -278,21 +278,21 @@ added_tellable (Err e) short = tellable_refusal e short
 
 -- ---- What is kept of the coordinator.
 
-pub begun_kept : (u : EngineView) → IsEngine u → IsWhole u → (timeout : ℕ) (r : Result TxnId CoordError) (c' : CoordView) → OnOk r (c' ≡ logged u.coord (coord.New (next_txn u.coord) (u.latest + timeout)))
-    → (r ≡ Err coord_error.Fault → c' ≡ fenced u.coord (coord.New (next_txn u.coord) (u.latest + timeout))) → IfErr r (λ e. (e ≡ coord_error.Fault → ⊥) → c' ≡ u.coord) → IsCoordinator u.limits (length u.names) c'
+pub begun_kept : (u : EngineView) → IsEngine u → IsWhole u → (timeout : ℕ) (r : Result TxnId CoordError) (c' : CoordView) → OnOk r (c' ≡ with_entry u.coord (coord.New (next_txn u.coord) (u.latest + timeout)))
+    → (r ≡ Err coord_error.Fault → c' ≡ with_failed_entry u.coord (coord.New (next_txn u.coord) (u.latest + timeout))) → IfErr r (λ e. (e ≡ coord_error.Fault → ⊥) → c' ≡ u.coord) → IsCoordinator u.limits (length u.names) c'
 begun_kept u is whole timeout (Ok x) c' now fault same =
     subst (IsCoordinator u.limits (length u.names)) (sym now)
     (logged_is u.limits (length u.names) u.coord (coord.New (next_txn u.coord) (u.latest + timeout)) is.coord whole.coord (new_allowed (length u.names) (coord_skeletons u.coord.front)))
 begun_kept u is whole timeout (Err e) c' now fault same = kept_by u is c' (coord.New (next_txn u.coord) (u.latest + timeout)) e (λ f. fault (ap (λ x. Err x) f)) same
 
 pub added_kept : (v : EngineView) → IsEngine v → IsWhole v → (x : TxnId) (p : ℕ) → 1 ≤ p → p ≤ length v.names → (r : Result (Unit {0}) CoordError) (c' : CoordView) → MatchOption (add_refusal v.coord x p) (MayFail r) (λ y. r ≡ Err y) → OnOk r (c' ≡ with_part v.coord x p)
-    → (r ≡ Err coord_error.Fault → c' ≡ fenced v.coord (coord.AddPart x p)) → IfErr r (λ e. (e ≡ coord_error.Fault → ⊥) → c' ≡ v.coord) → IsCoordinator v.limits (length v.names) c'
+    → (r ≡ Err coord_error.Fault → c' ≡ with_failed_entry v.coord (coord.AddPart x p)) → IfErr r (λ e. (e ≡ coord_error.Fault → ⊥) → c' ≡ v.coord) → IsCoordinator v.limits (length v.names) c'
 added_kept v is whole x p low high (Ok u) c' refused now fault same = by_part (has_part v.coord x p) refl
   where
     kept : has_part v.coord x p ≡ true → with_part v.coord x p ≡ v.coord
     kept has = rw has refl
 
-    grown : has_part v.coord x p ≡ false → with_part v.coord x p ≡ logged v.coord (coord.AddPart x p)
+    grown : has_part v.coord x p ≡ false → with_part v.coord x p ≡ with_entry v.coord (coord.AddPart x p)
     grown has = rw has refl
 
     by_part : (b : Bool) → has_part v.coord x p ≡ b → IsCoordinator v.limits (length v.names) c'
@@ -330,7 +330,7 @@ module _ (v : EngineView) (is : IsEngine v) (whole : IsWhole v) (tied : IsTied v
       (new_told v (RoseFor f g fs gs) latest now timeout (reply.No no.NoMemory) (table_of u) moment (memory_told u u_is u_whole u_tied v.limits (RoseFor f g fs gs) (request.New timeout)))
 
   pub new_answer : is_bad_timeout timeout ≡ false → (result : Result TxnId CoordError) (c' : CoordView) → IsCoordEntry (coord.New (next_txn v.coord) (latest + timeout)) → MatchOption (begin_refusal v.coord timeout) (MayFail result) (λ x. result ≡ Err x) → IfOk result (λ x. x ≡ next_txn v.coord)
-      → OnOk result (c' ≡ logged v.coord (coord.New (next_txn v.coord) (latest + timeout))) → (result ≡ Err coord_error.Fault → c' ≡ fenced v.coord (coord.New (next_txn v.coord) (latest + timeout))) → IfErr result (λ e. (e ≡ coord_error.Fault → ⊥) → c' ≡ v.coord)
+      → OnOk result (c' ≡ with_entry v.coord (coord.New (next_txn v.coord) (latest + timeout))) → (result ≡ Err coord_error.Fault → c' ≡ with_failed_entry v.coord (coord.New (next_txn v.coord) (latest + timeout))) → IfErr result (λ e. (e ≡ coord_error.Fault → ⊥) → c' ≡ v.coord)
       → (coordinator.IsFrontOf v.coord → coordinator.IsFrontOf c') → CountsFaults v.coord.content.key.part f g fs gs (result ≡ Err coord_error.Fault)
       → MayTell f g fs gs v (request.New timeout) now (begun_reply result) (with_coord u c')
   new_answer ok result c' fits refused told grown fault same tie cause =
@@ -370,7 +370,7 @@ module _ (v : EngineView) (is : IsEngine v) (whole : IsWhole v) (tied : IsTied v
 
   pub add_answer : (p : ℕ) → part_of v.names part ≡ Some p → (x.most == 0) ≡ true → 1 ≤ p → p ≤ length v.names → (result : Result (Unit {0}) CoordError) (c' : CoordView) → IsCoordEntry (coord.AddPart x p) → MatchOption (add_refusal v.coord x p) (MayFail result) (λ y. result ≡ Err y)
       → (add_refusal v.coord x p ≡ None → has_part v.coord x p ≡ true → IsOk result) → OnOk result (c' ≡ with_part v.coord x p)
-      → (result ≡ Err coord_error.Fault → c' ≡ fenced v.coord (coord.AddPart x p)) → IfErr result (λ e. (e ≡ coord_error.Fault → ⊥) → c' ≡ v.coord)
+      → (result ≡ Err coord_error.Fault → c' ≡ with_failed_entry v.coord (coord.AddPart x p)) → IfErr result (λ e. (e ≡ coord_error.Fault → ⊥) → c' ≡ v.coord)
       → (coordinator.IsFrontOf v.coord → coordinator.IsFrontOf c') → CountsFaults v.coord.content.key.part f g fs gs (result ≡ Err coord_error.Fault)
       → MayTell f g fs gs v (request.Add x part) m (added_reply result) (with_coord v c')
   add_answer p known own low high result c' fits refused repeated grown fault same tie cause =

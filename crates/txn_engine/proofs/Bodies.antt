@@ -14,10 +14,10 @@ use Rattle.txn_base.specs.Room.{Roomy}
 use Rattle.txn_base.specs.declared.entry.TopicEntry.{TopicEntry}
 use Rattle.txn_base.specs.declared.limits.Limits.{Limits}
 use Rattle.txn_buffer.specs.Adding.{IsBodyWithin, AreBodies}
-use Rattle.txn_buffer.specs.View.{batch_of}
+use Rattle.txn_buffer.specs.View.{topic_batch}
 use Rattle.txn_model.specs.EarlyRows.{are_too_big}
 use Rattle.txn_model.specs.Sound.{RecordsOf, IsBareRecord}
-use Rattle.txn_model.proofs.Laws.Files.{topic_of_record, entries_of}
+use Rattle.txn_model.proofs.Laws.Files.{topic_of_record, entries_of_records}
 
 -- ---- Copies of texts.
 
@@ -54,5 +54,5 @@ are_bodies limits own asked bodies same range e texts small some =
 -- ---- Their records.
 
 -- what a batch of such records is read as
-pub entries_back : (es : List TopicEntry) → RecordsOf IsBareRecord (records (batch_of es ∷ [])) es → topic_entries (batch_of es ∷ []) ≡ es
-entries_back es each = entries_of IsBareRecord topic_entry_of topic_of_record (records (batch_of es ∷ [])) es each
+pub entries_back : (es : List TopicEntry) → RecordsOf IsBareRecord (records (topic_batch es ∷ [])) es → topic_entries (topic_batch es ∷ []) ≡ es
+entries_back es each = entries_of_records IsBareRecord topic_entry_of topic_of_record (records (topic_batch es ∷ [])) es each

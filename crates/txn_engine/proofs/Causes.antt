@@ -16,12 +16,12 @@ use Rattle.txn_model.specs.LateRows.{late_refusal}
 use Rattle.txn_model.specs.Names.{name_of}
 use Rattle.txn_model.specs.Replies.{is_fault}
 use Rattle.txn_model.specs.Successes.{success_of}
-use Rattle.txn_model.specs.Table.{TableState, Batch, is_fenced, at_moment}
-use Rattle.txn_engine.specs.Causes.{first_row, IsByRow}
+use Rattle.txn_model.specs.Table.{TableState, EntryBatch, is_unrebuilt, at_moment}
+use Rattle.txn_engine.specs.Causes.{first_refusal, IsByRow}
 use Rattle.txn_engine.specs.Table.{table_of}
 use Rattle.txn_engine.specs.Told.{IsAsked}
 use Rattle.txn_engine.specs.View.{EngineView, IsWhole}
-use Rattle.txn_engine.proofs.MarkLoop.{not_fenced}
+use Rattle.txn_engine.proofs.MarkLoop.{not_unrebuilt}
 
 same_row : (a b : Refusal) → reply.No a ≡ reply.No b → a ≡ b
 same_row a b e = cc
@@ -54,7 +54,7 @@ fault_told part row not told e is = not part (same_row row (no.Fault part) (sym 
 
 -- ---- What a request that isn't refused is told.
 
-fails_not : (rose : ℕ → Type 0) (b : Batch) (t : TableState) (told : Reply) (t' : TableState) → AppendFails rose b t told t' → (row : Refusal) → NotFault row → told ≡ reply.No row → ⊥
+fails_not : (rose : ℕ → Type 0) (b : EntryBatch) (t : TableState) (told : Reply) (t' : TableState) → AppendFails rose b t told t' → (row : Refusal) → NotFault row → told ≡ reply.No row → ⊥
 fails_not rose b t told t' h row not is = fault_told (name_of t.world.names h.0) row not told h.3 is
 
 -- a reply that tells something else than a refusal
@@ -105,9 +105,9 @@ read_free limits t w request.Stop p asked e = absurd asked
 
 -- ---- Over a table whose parts are rebuilt.
 
-module _ (limits : Limits) (rose : ℕ → Type 0) (t : TableState) (whole : (p : ℕ) → is_fenced t p ≡ false) (r : Request) (asked : IsAsked r) where
+module _ (limits : Limits) (rose : ℕ → Type 0) (t : TableState) (whole : (p : ℕ) → is_unrebuilt t p ≡ false) (r : Request) (asked : IsAsked r) where
   rebuilds_same : (p : ℕ) (mid : TableState) → Rebuilds p t mid → mid ≡ t
-  rebuilds_same p mid h = by_test (is_fenced t p) _ (whole p) h
+  rebuilds_same p mid h = by_test (is_unrebuilt t p) _ (whole p) h
     where
       by_test : (b : Bool) (A : Type 0) → b ≡ false → MatchBool b A (mid ≡ t) → mid ≡ t
       by_test true A e h = absurd (not_both refl e)
@@ -123,7 +123,7 @@ module _ (limits : Limits) (rose : ℕ → Type 0) (t : TableState) (whole : (p 
   never_refused (q ∷ qs) p t' (inr h) = never_refused qs p t' (subst (λ (s : TableState). RefusedAt qs p s t') (rebuilds_same q h.0 h.1) h.2)
 
   abbrev row_here : Option Refusal
-  row_here = first_row limits t r
+  row_here = first_refusal limits t r
 
   by_early : (o : Option Refusal) → early_refusal limits t.world r ≡ o → row_here ≡ option_or o (late_refusal limits t r)
   by_early o e = ap (λ (x : Option Refusal). option_or x (late_refusal limits t r)) e
@@ -164,18 +164,18 @@ module _ (limits : Limits) (rose : ℕ → Type 0) (t : TableState) (whole : (p 
 
 -- ---- Over an engine whose parts are rebuilt, at a moment.
 
-whole_moved : (v : EngineView) → IsWhole v → (r : Request) (m p : ℕ) → is_fenced (moved r m (table_of v)) p ≡ false
+whole_moved : (v : EngineView) → IsWhole v → (r : Request) (m p : ℕ) → is_unrebuilt (moved r m (table_of v)) p ≡ false
 whole_moved v whole r m p = by_test (reads_clock r)
   where
-    by_test : (b : Bool) → is_fenced (if b then at_moment m (table_of v) else table_of v) p ≡ false
-    by_test true = not_fenced v whole p
-    by_test false = not_fenced v whole p
+    by_test : (b : Bool) → is_unrebuilt (if b then at_moment m (table_of v) else table_of v) p ≡ false
+    by_test true = not_unrebuilt v whole p
+    by_test false = not_unrebuilt v whole p
 
 module _ (v : EngineView) (whole : IsWhole v) (rose : ℕ → Type 0) (r : Request) (asked : IsAsked r) (m : ℕ) (told : Reply) (t' : TableState) (answers : AnswersAt v.limits rose (table_of v) r m told t') where
-  pub rows_clause : (row : Refusal) → IsByRow row → told ≡ reply.No row → first_row v.limits (moved r m (table_of v)) r ≡ Some row
+  pub rows_clause : (row : Refusal) → IsByRow row → told ≡ reply.No row → first_refusal v.limits (moved r m (table_of v)) r ≡ Some row
   rows_clause row by is = by_its_row v.limits rose (moved r m (table_of v)) (whole_moved v whole r m) r asked told t' answers row by is
 
-  pub causes_clause : (row : Refusal) → first_row v.limits (moved r m (table_of v)) r ≡ Some row → (told ≡ reply.No row) ⊎ (told ≡ reply.No no.NoMemory)
+  pub causes_clause : (row : Refusal) → first_refusal v.limits (moved r m (table_of v)) r ≡ Some row → (told ≡ reply.No row) ⊎ (told ≡ reply.No no.NoMemory)
   causes_clause row is = row_is_told v.limits rose (moved r m (table_of v)) (whole_moved v whole r m) r asked told t' answers row is
 
   pub unchanged_clause : (row : Refusal) → told ≡ reply.No row → is_fault told ≡ false → t' ≡ moved r m (table_of v)

@@ -9,13 +9,13 @@ use Rattle.txn_base.specs.declared.entry.TopicEntry.{TopicEntry}
 use Rattle.txn_base.specs.Decoded.{coord_entry_of, topic_entry_of, coord_entries, topic_entries}
 use Rattle.txn_base.specs.Frames.{records, Batch as FrameBatch}
 use Rattle.txn_base.specs.Records.{IsCoordEntry}
-use Rattle.txn_model.specs.Table.{in_coord, in_topic, settled as with_batch, fenced_by}
+use Rattle.txn_model.specs.Table.{in_coord, in_topic, with_batch, with_failed_batch}
 use Rattle.txn_model.specs.Words.{append_at, set_at, nowhere}
 use Rattle.txn_model.proofs.Laws.Files.{coord_decoded}
 use Rattle.txn_buffer.specs.View as topic
-use Rattle.txn_buffer.specs.View.{TopicView, batch_of, with_entries}
+use Rattle.txn_buffer.specs.View.{TopicView, topic_batch, with_entries}
 use Rattle.txn_coordinator.specs.View as coordinator
-use Rattle.txn_coordinator.specs.View.{CoordView, coord_batch, logged}
+use Rattle.txn_coordinator.specs.View.{CoordView, coord_batch, with_entry}
 use Rattle.txn_engine.specs.Kept.{IsEngine}
 use Rattle.txn_engine.specs.Table.{coord_flight, lists_from, unrebuilt_from, table_of}
 use Rattle.txn_engine.specs.View.{EngineView, IsWhole, IsTied, with_coord, with_topics, replaced}
@@ -39,29 +39,29 @@ module _ (v : EngineView) (is : IsEngine v) (whole : IsWhole v) (tied : IsTied v
   coord_added e c front low = λ i. record {
     world = record { names = v.names; coord = front i; topics = fronts_from 1 v.topics; subs = [] };
     flights = record { coord = []; topics = λ p. []; subs = λ p. [] };
-    fenced = nowhere;
+    unrebuilt = nowhere;
     latest = v.latest;
     opened_low = low i;
     given = λ s. nowhere;
   }
 
   -- where the append of an entry failed
-  pub coord_fenced : (e : CoordEntry) → IsCoordEntry e → table_of (with_coord v (coordinator.fenced v.coord e)) ≡ fenced_by (in_coord e) 0 (whole_table v)
-  coord_fenced e fits =
+  pub coord_failed : (e : CoordEntry) → IsCoordEntry e → table_of (with_coord v (coordinator.with_failed_entry v.coord e)) ≡ with_failed_batch (in_coord e) 0 (whole_table v)
+  coord_failed e fits =
       let coord : coord_entries v.coord.content.batches ≡ v.coord.front = coord_front v.limits (length v.names) v.coord is.coord whole.coord tied.coord in
       let topics : lists_from 1 v.topics ≡ fronts_from 1 v.topics = lists_are v.limits 1 v.topics is.topics whole.topics tied.topics in
       let flight : coord_entries (coord_batch e ∷ []) ≡ e ∷ [] = ap (λ (x : CoordEntry). x ∷ []) (coord_decoded e fits) in
       λ i. record {
         world = record { names = v.names; coord = coord i; topics = topics i; subs = [] };
         flights = record { coord = flight i; topics = λ p. no_flight 1 v.topics (settled_topics v is whole) p i; subs = λ p. [] };
-        fenced = λ p. fence p i;
+        unrebuilt = λ p. unrebuilt_here p i;
         latest = v.latest;
         opened_low = v.coord.opened_low;
         given = sym (given_same 0) i;
       }
     where
-      fence : (p : ℕ) → (if p == 0 then true else unrebuilt_from 1 v.topics p) ≡ (if p == 0 then true else false)
-      fence p = ap (λ (b : Bool). if p == 0 then true else b) (none_unrebuilt 1 v.topics whole.topics p)
+      unrebuilt_here : (p : ℕ) → (if p == 0 then true else unrebuilt_from 1 v.topics p) ≡ (if p == 0 then true else false)
+      unrebuilt_here p = ap (λ (b : Bool). if p == 0 then true else b) (none_unrebuilt 1 v.topics whole.topics p)
 
   -- ---- A topic.
 
@@ -73,16 +73,16 @@ module _ (v : EngineView) (is : IsEngine v) (whole : IsWhole v) (tied : IsTied v
         λ i. record {
           world = record { names = v.names; coord = v.coord.front; topics = topics i; subs = [] };
           flights = record { coord = []; topics = λ p. []; subs = λ p. [] };
-          fenced = nowhere;
+          unrebuilt = nowhere;
           latest = v.latest;
           opened_low = v.coord.opened_low;
           given = λ s. nowhere;
         }
 
     -- where the append of entries failed
-    pub topic_fenced : topic_entries (batch_of es ∷ []) ≡ es → table_of (with_topics v (replaced v.topics j (topic.fenced (get_or v.topics j d) es))) ≡ fenced_by (in_topic (1 + j) es) (1 + j) (whole_table v)
-    topic_fenced decodes =
-        let t : TopicView = topic.fenced (get_or v.topics j d) es in
+    pub topic_failed : topic_entries (topic_batch es ∷ []) ≡ es → table_of (with_topics v (replaced v.topics j (topic.with_failed_entries (get_or v.topics j d) es))) ≡ with_failed_batch (in_topic (1 + j) es) (1 + j) (whole_table v)
+    topic_failed decodes =
+        let t : TopicView = topic.with_failed_entries (get_or v.topics j d) es in
         let coord : coord_entries v.coord.content.batches ≡ v.coord.front = coord_front v.limits (length v.names) v.coord is.coord whole.coord tied.coord in
         let topics : lists_from 1 (replaced v.topics j t) ≡ fronts_from 1 v.topics =
         lists_replaced 1 v.topics j t d below refl ∙ lists_are v.limits 1 v.topics is.topics whole.topics tied.topics in
@@ -90,7 +90,7 @@ module _ (v : EngineView) (is : IsEngine v) (whole : IsWhole v) (tied : IsTied v
         λ i. record {
           world = record { names = v.names; coord = coord i; topics = topics i; subs = [] };
           flights = record { coord = flight i; topics = λ p. flight_at 1 v.topics j t es (1 + j) refl below decodes (settled_topics v is whole) p i; subs = λ p. [] };
-          fenced = λ p. fence p i;
+          unrebuilt = λ p. unrebuilt_here p i;
           latest = v.latest;
           opened_low = v.coord.opened_low;
           given = sym (given_same (1 + j)) i;
@@ -99,12 +99,12 @@ module _ (v : EngineView) (is : IsEngine v) (whole : IsWhole v) (tied : IsTied v
         zero_not : (p : ℕ) → (p == 0) ≡ true → (p == (1 + j)) ≡ false
         zero_not p h = grind (arith, nat_tests, h)
 
-        fence : (p : ℕ) → (if p == 0 then not v.coord.whole else unrebuilt_from 1 (replaced v.topics j (topic.fenced (get_or v.topics j d) es)) p) ≡ (if p == (1 + j) then true else false)
-        fence p = by_test (p == 0) refl
+        unrebuilt_here : (p : ℕ) → (if p == 0 then not v.coord.whole else unrebuilt_from 1 (replaced v.topics j (topic.with_failed_entries (get_or v.topics j d) es)) p) ≡ (if p == (1 + j) then true else false)
+        unrebuilt_here p = by_test (p == 0) refl
           where
-            by_test : (b : Bool) → (p == 0) ≡ b → (if p == 0 then not v.coord.whole else unrebuilt_from 1 (replaced v.topics j (topic.fenced (get_or v.topics j d) es)) p) ≡ (if p == (1 + j) then true else false)
+            by_test : (b : Bool) → (p == 0) ≡ b → (if p == 0 then not v.coord.whole else unrebuilt_from 1 (replaced v.topics j (topic.with_failed_entries (get_or v.topics j d) es)) p) ≡ (if p == (1 + j) then true else false)
             by_test true e = rw (e, zero_not p e) (ap not whole.coord)
-            by_test false e = rw e (unrebuilt_at 1 v.topics j (topic.fenced (get_or v.topics j d) es) (1 + j) refl below refl whole.topics p)
+            by_test false e = rw e (unrebuilt_at 1 v.topics j (topic.with_failed_entries (get_or v.topics j d) es) (1 + j) refl below refl whole.topics p)
 
 -- ---- Entries of a batch more.
 

@@ -17,13 +17,13 @@ use Rattle.txn_base.specs.Outside.{Rose}
 use Rattle.txn_base.specs.Records.{IsTxnId, IsCoordEntry}
 use Rattle.txn_coordinator.specs.Calls.{closing_of_view}
 use Rattle.txn_coordinator.specs.View as coordinator
-use Rattle.txn_coordinator.specs.View.{CoordView, coord_batch, logged, fenced, reserving}
+use Rattle.txn_coordinator.specs.View.{CoordView, coord_batch, with_entry, with_failed_entry, reserving}
 use Rattle.txn_ledger.specs.Ledger.{IsFile, StandsIn}
 use Rattle.txn_model.specs.Allowed.{IsAllowed}
 use Rattle.txn_model.specs.Coord.{CoordLawful, coord_allows, has_new, status_of, decision_of, closing_of, in_parts, closing_skeleton}
 use Rattle.txn_model.specs.Deadlines.{is_undriven, is_closed}
 use Rattle.txn_model.specs.Skeletons.{coord_skeleton, coord_skeletons, topic_skeletons}
-use Rattle.txn_model.specs.Table.{in_coord, closing_entry, closing_batch, fenced_by, settled as with_batch}
+use Rattle.txn_model.specs.Table.{in_coord, closing_entry, closing_batch, with_failed_batch, with_batch}
 use Rattle.txn_model.specs.Topic.{marker_of}
 use Rattle.txn_model.specs.World.{Lawful, log_of, part_skeletons}
 use Rattle.txn_model.proofs.Laws.Grants.{close_allowed, closing_allowed, parts_are_named}
@@ -31,10 +31,10 @@ use Rattle.txn_model.proofs.Laws.Logs.{Agrees, last_by, status_by, lawful_agrees
 use Rattle.txn_engine.specs.Ending.{AreMarked}
 use Rattle.txn_engine.specs.Kept.{IsCoordinator, IsEngine}
 use Rattle.txn_engine.specs.Table.{table_of, world_of}
-use Rattle.txn_engine.specs.Told.{RoseFor, Goes}
+use Rattle.txn_engine.specs.Told.{RoseFor, EngineGoesOn}
 use Rattle.txn_engine.specs.View.{EngineView, IsWhole, IsTied, IsBacked, with_coord}
-use Rattle.txn_engine.proofs.Changed.{coord_added, coord_fenced}
-use Rattle.txn_engine.proofs.Coordinators.{logged_is, fenced_is, reserving_is, engine_with}
+use Rattle.txn_engine.proofs.Changed.{coord_added, coord_failed}
+use Rattle.txn_engine.proofs.Coordinators.{logged_is, failed_is, reserving_is, engine_with}
 use Rattle.txn_engine.proofs.Decided.{on_ok, by_result, from_ok}
 use Rattle.txn_engine.proofs.Going.{coord_goes}
 use Rattle.txn_engine.proofs.Marked.{on_err, from_ok_err, is_ok_of, is_err_of}
@@ -94,9 +94,9 @@ closing_none (Some d) e = absurd (never e)
     never : true ≡ false → ⊥
     never h = cc
 
-pub decision_in : (o : Option Decision) → is_some o ≡ true → (d : Decision) × (o ≡ Some d)
-decision_in (Some d) e = (d, refl)
-decision_in None e = absurd (never e)
+pub decision_there : (o : Option Decision) → is_some o ≡ true → (d : Decision) × (o ≡ Some d)
+decision_there (Some d) e = (d, refl)
+decision_there None e = absurd (never e)
   where
     never : false ≡ true → ⊥
     never h = cc
@@ -127,7 +127,7 @@ closed_at v is w view x s e =
 -- ---- It is closed.
 
 module _ (v : EngineView) (is : IsEngine v) (w : EngineView) (view : v ≡ w) (whole' : IsWhole w) (x : TxnId) (d : Decision) (fits : IsTxnId x) (decided' : decision_of (coord_skeletons w.coord.front) x ≡ Some d) (unclosed' : closing_of (coord_skeletons w.coord.front) x ≡ None)
-    (c' : CoordView) (r : Result (Unit {0}) Failed) (ok' : OnOk r (c' ≡ reserving 0 (logged v.coord (closing_of_view v.coord x)))) (err' : OnErr r (c' ≡ fenced v.coord (closing_of_view v.coord x))) where
+    (c' : CoordView) (r : Result (Unit {0}) Failed) (ok' : OnOk r (c' ≡ reserving 0 (with_entry v.coord (closing_of_view v.coord x)))) (err' : OnErr r (c' ≡ with_failed_entry v.coord (closing_of_view v.coord x))) where
   whole : IsWhole v
   whole = subst IsWhole (sym view) whole'
 
@@ -143,17 +143,17 @@ module _ (v : EngineView) (is : IsEngine v) (w : EngineView) (view : v ≡ w) (w
   abbrev u : EngineView
   u = with_coord v c'
 
-  ok_is : IsOk r → c' ≡ reserving 0 (logged v.coord (closing_entry x d))
+  ok_is : IsOk r → c' ≡ reserving 0 (with_entry v.coord (closing_entry x d))
   ok_is is_ok =
-      by_result r (c' ≡ reserving 0 (logged v.coord (closing_entry x d))) (λ a e. from_ok r (c' ≡ reserving 0 (logged v.coord (closing_of_view v.coord x))) a e ok' ∙ ap (λ (e : CoordEntry). reserving 0 (logged v.coord e)) entry_is)
+      by_result r (c' ≡ reserving 0 (with_entry v.coord (closing_entry x d))) (λ a e. from_ok r (c' ≡ reserving 0 (with_entry v.coord (closing_of_view v.coord x))) a e ok' ∙ ap (λ (e : CoordEntry). reserving 0 (with_entry v.coord e)) entry_is)
       (λ y e. absurd (both r y e is_ok))
     where
       both : (r : Result (Unit {0}) Failed) (y : Failed) → r ≡ Err y → IsOk r → ⊥
       both (Ok a) y e ok = cc
       both (Err z) y e ok = cc
 
-  err_is : IsErr r → c' ≡ fenced v.coord (closing_entry x d)
-  err_is is_err = from_ok_err r (c' ≡ fenced v.coord (closing_of_view v.coord x)) is_err err' ∙ ap (λ (e : CoordEntry). fenced v.coord e) entry_is
+  err_is : IsErr r → c' ≡ with_failed_entry v.coord (closing_entry x d)
+  err_is is_err = from_ok_err r (c' ≡ with_failed_entry v.coord (closing_of_view v.coord x)) is_err err' ∙ ap (λ (e : CoordEntry). with_failed_entry v.coord e) entry_is
 
   allowed_entry : coord_allows (length v.names) (coord_skeletons v.coord.front) (coord_skeleton (closing_entry x d)) ≡ true
   allowed_entry = ap (coord_allows (length v.names) (coord_skeletons v.coord.front)) (skeleton_is x d) ∙ close_allowed (length v.names) (coord_skeletons v.coord.front) x d is.coord.lawful unclosed decided
@@ -164,8 +164,8 @@ module _ (v : EngineView) (is : IsEngine v) (w : EngineView) (view : v ≡ w) (w
       coord_here : IsCoordinator v.limits (length v.names) c'
       coord_here =
           by_result r (IsCoordinator v.limits (length v.names) c')
-          (λ a e. subst (IsCoordinator v.limits (length v.names)) (sym (ok_is (is_ok_of r a e))) (reserving_is v.limits (length v.names) 0 (logged v.coord (closing_entry x d)) (logged_is v.limits (length v.names) v.coord (closing_entry x d) is.coord whole.coord allowed_entry)))
-          (λ y e. subst (IsCoordinator v.limits (length v.names)) (sym (err_is (is_err_of r y e))) (fenced_is v.limits (length v.names) v.coord (closing_entry x d) is.coord))
+          (λ a e. subst (IsCoordinator v.limits (length v.names)) (sym (ok_is (is_ok_of r a e))) (reserving_is v.limits (length v.names) 0 (with_entry v.coord (closing_entry x d)) (logged_is v.limits (length v.names) v.coord (closing_entry x d) is.coord whole.coord allowed_entry)))
+          (λ y e. subst (IsCoordinator v.limits (length v.names)) (sym (err_is (is_err_of r y e))) (failed_is v.limits (length v.names) v.coord (closing_entry x d) is.coord))
 
   whole_after : IsTrue c'.whole ⊎ IsErr r
   whole_after = by_result r (IsTrue c'.whole ⊎ IsErr r) (λ a e. inl (subst (λ (c : CoordView). IsTrue c.whole) (sym (ok_is (is_ok_of r a e))) whole.coord)) (λ y e. inr (is_err_of r y e))
@@ -184,9 +184,9 @@ module _ (v : EngineView) (is : IsEngine v) (w : EngineView) (view : v ≡ w) (w
         ∙ coord_added v is whole tied (closing_entry x d) c' (ap (λ (c : CoordView). c.front) now) (ap (λ (c : CoordView). c.opened_low) now)
         ∙ ap (with_batch (closing_batch x d)) (sym same_table))
 
-    pub close_err : OnErr r (table_of u ≡ fenced_by (closing_batch x d) 0 (table_of w))
-    close_err = on_err r (table_of u ≡ fenced_by (closing_batch x d) 0 (table_of w)) (λ e.
-        ap (λ (c : CoordView). table_of (with_coord v c)) (err_is e) ∙ coord_fenced v is whole tied (closing_entry x d) (closing_fits x d fits) ∙ ap (fenced_by (closing_batch x d) 0) (sym same_table))
+    pub close_err : OnErr r (table_of u ≡ with_failed_batch (closing_batch x d) 0 (table_of w))
+    close_err = on_err r (table_of u ≡ with_failed_batch (closing_batch x d) 0 (table_of w)) (λ e.
+        ap (λ (c : CoordView). table_of (with_coord v c)) (err_is e) ∙ coord_failed v is whole tied (closing_entry x d) (closing_fits x d fits) ∙ ap (with_failed_batch (closing_batch x d) 0) (sym same_table))
 
   pub close_rose : (f g : ℕ) (fs gs : ℕ → ℕ) → HasPartCause v.coord.content.key.part f g fs gs r → OnErr r (RoseFor f g fs gs 0)
   close_rose f g fs gs cause = on_err r (RoseFor f g fs gs 0) (λ e. subst (λ (k : FileId). Rose f g × Rose (fs k.part) (gs k.part)) is.coord.key (from_ok_err r (Rose f g × Rose (fs v.coord.content.key.part) (gs v.coord.content.key.part)) e cause.failed))
@@ -223,9 +223,9 @@ module _ (v : EngineView) (is : IsEngine v) (w : EngineView) (view : v ≡ w) (w
 
     pub close_goes : {D : Type 0} (on : Ghosts D) (old new : D) → IsBacked (on.image old) w → (coordinator.IsFrontOf v.coord → coordinator.IsFrontOf c') → Backed StandsIn (on.image new) c'.content
         → After on (Appends IsFile StandsIn v.coord.content (coord_batch (closing_of_view v.coord x))) old new → Elsewhere v.coord.content.key (on.seen old) (on.seen new) → FailsIn on v.coord.content.key.part old new r
-        → Goes on (IsErr r) w u old new
+        → EngineGoesOn on (IsErr r) w u old new
     close_goes on old new backed tie here since others cause =
-        subst (λ (z : EngineView). Goes on (IsErr r) z u old new) view
+        subst (λ (z : EngineView). EngineGoesOn on (IsErr r) z u old new) view
         (coord_goes on v is whole old new (subst (IsBacked (on.image old)) (sym view) backed) (IsErr r) (IsErr r) (closing_entry x d) u (closing_fits x d fits) allowed refl refl whole_after tie here
         (subst (λ (e : CoordEntry). After on (Appends IsFile StandsIn v.coord.content (coord_batch e)) old new) entry_is since) others
         (record { later = cause.later; parts_later = cause.parts_later; failed = λ e. from_ok_err r (Rose (on.faults old) (on.faults new) × Rose (on.part_faults old v.coord.content.key.part) (on.part_faults new v.coord.content.key.part)) e cause.failed; others = cause.others }) (λ h. h))

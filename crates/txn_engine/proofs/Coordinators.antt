@@ -18,7 +18,7 @@ use Rattle.txn_model.specs.Words.{all_follow}
 use Rattle.txn_coordinator.specs.declared.error.CoordError.{CoordError}
 use Rattle.txn_coordinator.specs.declared.error.CoordError.TheVariants as coord_error
 use Rattle.txn_coordinator.specs.Calls.{MayFail, add_refusal_at}
-use Rattle.txn_coordinator.specs.View.{CoordView, coord_batch, logged, fenced, reserving}
+use Rattle.txn_coordinator.specs.View.{CoordView, coord_batch, with_entry, with_failed_entry, reserving}
 use Rattle.txn_engine.specs.Kept.{IsCoordinator, IsEngine}
 use Rattle.txn_engine.specs.View.{EngineView}
 
@@ -43,7 +43,7 @@ lawful_more n c e lawful allowed =
 one_more : (bs : List FrameBatch) (e : CoordEntry) → length (records (bs ++ coord_batch e ∷ [])) ≡ length (records bs) + 1
 one_more bs e = ap length (flat_map-append (λ (b : FrameBatch). b) bs (coord_batch e ∷ [])) ∙ length-append (records bs) (records (coord_batch e ∷ []))
 
-pub logged_is : (limits : Limits) (n : ℕ) (v : CoordView) (e : CoordEntry) → IsCoordinator limits n v → IsTrue v.whole → coord_allows n (coord_skeletons v.front) (coord_skeleton e) ≡ true → IsCoordinator limits n (logged v e)
+pub logged_is : (limits : Limits) (n : ℕ) (v : CoordView) (e : CoordEntry) → IsCoordinator limits n v → IsTrue v.whole → coord_allows n (coord_skeletons v.front) (coord_skeleton e) ≡ true → IsCoordinator limits n (with_entry v e)
 logged_is limits n v e is whole allowed = record {
   key = is.key;
   limits_are = is.limits_are;
@@ -52,8 +52,8 @@ logged_is limits n v e is whole allowed = record {
   all = λ w. length-append v.front (e ∷ []) ∙ ap (λ (m : ℕ). m + 1) (is.all whole) ∙ sym (one_more v.content.batches e);
 }
 
-pub fenced_is : (limits : Limits) (n : ℕ) (v : CoordView) (e : CoordEntry) → IsCoordinator limits n v → IsCoordinator limits n (fenced v e)
-fenced_is limits n v e is = record {
+pub failed_is : (limits : Limits) (n : ℕ) (v : CoordView) (e : CoordEntry) → IsCoordinator limits n v → IsCoordinator limits n (with_failed_entry v e)
+failed_is limits n v e is = record {
   key = is.key;
   limits_are = is.limits_are;
   lawful = refl;

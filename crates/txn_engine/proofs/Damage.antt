@@ -17,7 +17,7 @@ use Rattle.txn_buffer.specs.declared.error.TopicError.{TopicError}
 use Rattle.txn_buffer.specs.declared.error.TopicError.TheVariants as topic_error
 use Rattle.txn_coordinator.specs.declared.error.CoordError.{CoordError}
 use Rattle.txn_coordinator.specs.declared.error.CoordError.TheVariants as coord_error
-use Rattle.txn_engine.specs.Damage.{is_damage, IsDamagedAt, IsDamageIn}
+use Rattle.txn_engine.specs.Damage.{is_damage, IsDamagedPlace, IsDamageIn}
 use Rattle.txn_engine.specs.Kept.{IsEngine}
 use Rattle.txn_engine.specs.Publishing.{why_refusal, publish_reply}
 use Rattle.txn_engine.specs.Refusals.{coord_refusal, begun_reply, added_reply}
@@ -84,7 +84,7 @@ module _ (tells : Type 0) (v w : EngineView) (view : v ≡ w) (is : IsEngine v) 
   damage_told place within outside named same part at is_it =
       let both = same_damage named part place at is_it in (
         both.0 ∙ same,
-        subst (λ (x : EngineView). IsDamagedAt tells x topic first at) view
-            (subst (λ (i : ℕ). IsDamagedAt tells v topic first i) both.1
+        subst (λ (x : EngineView). IsDamagedPlace tells x topic first at) view
+            (subst (λ (i : ℕ). IsDamagedPlace tells v topic first i) both.1
             (record { number = p; known = known; topic = t; at = at_any; behind = within.0; before = within.1; outside = outside })),
       )

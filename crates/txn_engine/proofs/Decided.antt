@@ -23,7 +23,7 @@ use Rattle.txn_coordinator.specs.declared.error.CoordError.{CoordError}
 use Rattle.txn_coordinator.specs.declared.error.CoordError.TheVariants as coord_error
 use Rattle.txn_coordinator.specs.Calls.{MayFail, status_in_view, decide_refusal, decide_refusal_at, decided}
 use Rattle.txn_coordinator.specs.View as coordinator
-use Rattle.txn_coordinator.specs.View.{CoordView, coord_batch, logged, fenced}
+use Rattle.txn_coordinator.specs.View.{CoordView, coord_batch, with_entry, with_failed_entry}
 use Rattle.txn_ledger.specs.Ledger.{IsFile, StandsIn}
 use Rattle.txn_model.specs.Allowed.{IsAllowed}
 use Rattle.txn_model.specs.Answers.{Answers, AnswersAt, Ends, Succeeds, AppendFails, moved, uses}
@@ -32,17 +32,17 @@ use Rattle.txn_model.specs.EarlyRows.{early_refusal}
 use Rattle.txn_model.specs.LateRows.{late_refusal, opposes}
 use Rattle.txn_model.specs.Replies.{is_fault}
 use Rattle.txn_model.specs.Skeletons.{coord_skeleton, coord_skeletons}
-use Rattle.txn_model.specs.Table.{TableState, Batch, nothing, in_coord, decision_entry, decision_batch, settled as with_batch}
+use Rattle.txn_model.specs.Table.{TableState, EntryBatch, nothing, in_coord, decision_entry, decision_batch, with_batch}
 use Rattle.txn_model.specs.World.{Lawful}
 use Rattle.txn_model.proofs.Laws.Grants.{decision_granted}
 use Rattle.txn_model.proofs.Laws.Lists.{map_append, first_of-append}
 use Rattle.txn_model.proofs.Laws.Logs.{Agrees, last_by, status_by, open_means, lawful_agrees}
 use Rattle.txn_coordinator.proofs.Laws.{same_itself, in_parts-push}
-use Rattle.txn_engine.specs.Ending.{end_of, IsReady, IsGranted}
+use Rattle.txn_engine.specs.Ending.{end_request, IsReady, IsGranted}
 use Rattle.txn_engine.specs.Kept.{IsEngine, IsCoordinator}
 use Rattle.txn_engine.specs.Refusals.{coord_refusal}
 use Rattle.txn_engine.specs.Table.{table_of, world_of}
-use Rattle.txn_engine.specs.Told.{MayTell, RoseFor, Goes}
+use Rattle.txn_engine.specs.Told.{MayTell, RoseFor, EngineGoesOn}
 use Rattle.txn_engine.specs.View.{EngineView, IsWhole, IsTied, IsBacked, with_coord}
 use Rattle.txn_engine.proofs.Begun.{short_told, row_told, error_told, coord_fails, begun_short, kept_by}
 use Rattle.txn_engine.proofs.BegunGoes.{still_goes, error_goes, fault_refusal}
@@ -55,15 +55,15 @@ use Rattle.txn_engine.proofs.Whole.{whole_world, whole_table, world_is, table_is
 -- ---- The rows.
 
 module _ (limits : Limits) (v : EngineView) (x : TxnId) where
-  pub early_end : (d : Decision) → (x.most == 0) ≡ true → early_refusal limits (whole_world v) (end_of d x) ≡ None
+  pub early_end : (d : Decision) → (x.most == 0) ≡ true → early_refusal limits (whole_world v) (end_request d x) ≡ None
   early_end Commit own = rw own refl
   early_end Abort own = rw own refl
 
-  pub foreign_end : (d : Decision) → (x.most == 0) ≡ false → early_refusal limits (whole_world v) (end_of d x) ≡ Some (no.UnknownCoordinator x.most)
+  pub foreign_end : (d : Decision) → (x.most == 0) ≡ false → early_refusal limits (whole_world v) (end_request d x) ≡ Some (no.UnknownCoordinator x.most)
   foreign_end Commit other = rw other refl
   foreign_end Abort other = rw other refl
 
-  late_by : (d : Decision) (s : Option Status) → status_of (coord_skeletons v.coord.front) x ≡ s → late_refusal limits (whole_table v) (end_of d x) ≡ option_map coord_refusal (decide_refusal_at s d)
+  late_by : (d : Decision) (s : Option Status) → status_of (coord_skeletons v.coord.front) x ≡ s → late_refusal limits (whole_table v) (end_request d x) ≡ option_map coord_refusal (decide_refusal_at s d)
   late_by Commit None e = rw e refl
   late_by Commit (Some Open) e = rw e refl
   late_by Commit (Some Committing) e = rw e refl
@@ -77,17 +77,17 @@ module _ (limits : Limits) (v : EngineView) (x : TxnId) where
   late_by Abort (Some Aborting) e = rw e refl
   late_by Abort (Some Aborted) e = rw e refl
 
-  pub end_row : (d : Decision) → late_refusal limits (whole_table v) (end_of d x) ≡ option_map coord_refusal (decide_refusal v.coord x d)
+  pub end_row : (d : Decision) → late_refusal limits (whole_table v) (end_request d x) ≡ option_map coord_refusal (decide_refusal v.coord x d)
   end_row d = late_by d (status_of (coord_skeletons v.coord.front) x) refl
 
-  moved_end : (d : Decision) (m : ℕ) (t : TableState) → moved (end_of d x) m t ≡ t
+  moved_end : (d : Decision) (m : ℕ) (t : TableState) → moved (end_request d x) m t ≡ t
   moved_end Commit m t = refl
   moved_end Abort m t = refl
 
-  pub at_once : (d : Decision) (rose : ℕ → Type 0) (m : ℕ) (t : TableState) (told : Reply) (t' : TableState) → Answers limits rose t (end_of d x) told t' → AnswersAt limits rose t (end_of d x) m told t'
-  at_once d rose m t told t' h = subst (λ (s : TableState). Answers limits rose s (end_of d x) told t') (sym (moved_end d m t)) h
+  pub at_once : (d : Decision) (rose : ℕ → Type 0) (m : ℕ) (t : TableState) (told : Reply) (t' : TableState) → Answers limits rose t (end_request d x) told t' → AnswersAt limits rose t (end_request d x) m told t'
+  at_once d rose m t told t' h = subst (λ (s : TableState). Answers limits rose s (end_request d x) told t') (sym (moved_end d m t)) h
 
-pub end_succeeds : (limits : Limits) (rose : ℕ → Type 0) (t : TableState) (x : TxnId) (d : Decision) (told : Reply) (t' : TableState) → ((outcome : Outcome) × Ends rose t x d outcome t' × (told ≡ reply.Ended d outcome)) ⊎ AppendFails rose (decision_batch t x d) t told t' → Succeeds limits rose t (end_of d x) told t'
+pub end_succeeds : (limits : Limits) (rose : ℕ → Type 0) (t : TableState) (x : TxnId) (d : Decision) (told : Reply) (t' : TableState) → ((outcome : Outcome) × Ends rose t x d outcome t' × (told ≡ reply.Ended d outcome)) ⊎ AppendFails rose (decision_batch t x d) t told t' → Succeeds limits rose t (end_request d x) told t'
 end_succeeds limits rose t x Commit told t' h = h
 end_succeeds limits rose t x Abort told t' h = h
 
@@ -208,7 +208,7 @@ module _ (v : CoordView) (x : TxnId) (d : Decision) where
   pub decided_shut : is_open (status_in_view v x) ≡ false → decided v x d ≡ v
   decided_shut e = rw e refl
 
-  pub decided_open : is_open (status_in_view v x) ≡ true → decided v x d ≡ logged v (decision_entry x d)
+  pub decided_open : is_open (status_in_view v x) ≡ true → decided v x d ≡ with_entry v (decision_entry x d)
   decided_open e = rw e refl
 
 module _ (v : EngineView) (x : TxnId) (d : Decision) where
@@ -220,7 +220,7 @@ module _ (v : EngineView) (x : TxnId) (d : Decision) where
 
 module _ (v : EngineView) (is : IsEngine v) (whole : IsWhole v) (x : TxnId) (d : Decision) (fits : IsTxnId x) (result : Result Status CoordError) (c' : CoordView)
     (refused : MatchOption (decide_refusal v.coord x d) (MayFail result) (λ y. result ≡ Err y)) (repeated : decide_refusal v.coord x d ≡ None → is_open (status_in_view v.coord x) ≡ false → IsOk result)
-    (now : OnOk result (c' ≡ decided v.coord x d)) (fault : result ≡ Err coord_error.Fault → c' ≡ fenced v.coord (decision_entry x d)) (same : IfErr result (λ e. (e ≡ coord_error.Fault → ⊥) → c' ≡ v.coord)) where
+    (now : OnOk result (c' ≡ decided v.coord x d)) (fault : result ≡ Err coord_error.Fault → c' ≡ with_failed_entry v.coord (decision_entry x d)) (same : IfErr result (λ e. (e ≡ coord_error.Fault → ⊥) → c' ≡ v.coord)) where
   abbrev pub u : EngineView
   u = with_coord v c'
 
@@ -258,9 +258,9 @@ module _ (v : EngineView) (is : IsEngine v) (whole : IsWhole v) (x : TxnId) (d :
         by_test : (b : Bool) → is_open (status_in_view v.coord x) ≡ b → whole_table u ≡ with_batch (decision_batch (whole_table v) x d) (whole_table v)
         by_test true still_open =
             coord_added v is whole tied (decision_entry x d) c' (ap (λ (c : CoordView). c.front) (e ∙ decided_open v.coord x d still_open)) (ap (λ (c : CoordView). c.opened_low) (e ∙ decided_open v.coord x d still_open))
-            ∙ ap (λ (b : Batch). with_batch b (whole_table v)) (sym (batch_open v x d still_open))
+            ∙ ap (λ (b : EntryBatch). with_batch b (whole_table v)) (sym (batch_open v x d still_open))
         by_test false shut =
-            ap (λ (c : CoordView). whole_table (with_coord v c)) (e ∙ decided_shut v.coord x d shut) ∙ ap (λ (b : Batch). with_batch b (whole_table v)) (sym (batch_shut v x d shut))
+            ap (λ (c : CoordView). whole_table (with_coord v c)) (e ∙ decided_shut v.coord x d shut) ∙ ap (λ (b : EntryBatch). with_batch b (whole_table v)) (sym (batch_shut v x d shut))
 
     pub reserved_still : v.coord.reserved ≡ 1 → c'.reserved ≡ 1
     reserved_still ready = by_test (is_open (status_in_view v.coord x)) refl
@@ -306,25 +306,25 @@ module _ (v : EngineView) (is : IsEngine v) (whole : IsWhole v) (x : TxnId) (d :
     is_open_now e is_err none true still_open = still_open
     is_open_now e is_err none false shut = absurd (err_not_ok result e is_err (repeated none shut))
 
-    pub refused_told : (e : CoordError) → result ≡ Err e → ((e ≡ coord_error.Fault → ⊥) → c' ≡ v.coord) → CountsFaults v.coord.content.key.part f g fs gs (result ≡ Err coord_error.Fault) → MayTell f g fs gs v (end_of d x) m (reply.No (coord_refusal e)) u
+    pub refused_told : (e : CoordError) → result ≡ Err e → ((e ≡ coord_error.Fault → ⊥) → c' ≡ v.coord) → CountsFaults v.coord.content.key.part f g fs gs (result ≡ Err coord_error.Fault) → MayTell f g fs gs v (end_request d x) m (reply.No (coord_refusal e)) u
     refused_told e is_err still cause =
-        short_told f g fs gs v (end_of d x) m (reply.No (coord_refusal e)) u (begun_short (Err e))
+        short_told f g fs gs v (end_request d x) m (reply.No (coord_refusal e)) u (begun_short (Err e))
         (at_once v.limits v x d rose m (table_of v) (reply.No (coord_refusal e)) (table_of u)
-        (error_told v is whole tied v.limits rose (end_of d x) (decide_refusal v.coord x d) (early_end v.limits v x d own) (end_row v.limits v x d) (no_fault_decide (status_of (coord_skeletons v.coord.front) x) d) result refused c' e is_err still
+        (error_told v is whole tied v.limits rose (end_request d x) (decide_refusal v.coord x d) (early_end v.limits v x d own) (end_row v.limits v x d) (no_fault_decide (status_of (coord_skeletons v.coord.front) x) d) result refused c' e is_err still
         (λ failed none.
-        subst (λ (y : CoordError). Answers v.limits rose (whole_table v) (end_of d x) (reply.No (coord_refusal y)) (table_of u)) (sym failed)
-        (subst (λ (c : CoordView). Answers v.limits rose (whole_table v) (end_of d x) (reply.No (coord_refusal coord_error.Fault)) (table_of (with_coord v c))) (sym (fault (is_err ∙ ap (λ y. Err y) failed)))
-        (coord_fails v is whole tied v.limits rose (end_of d x) (decision_entry x d) (decision_fits x d fits) (early_end v.limits v x d own) (end_row v.limits v x d ∙ ap (option_map coord_refusal) none)
+        subst (λ (y : CoordError). Answers v.limits rose (whole_table v) (end_request d x) (reply.No (coord_refusal y)) (table_of u)) (sym failed)
+        (subst (λ (c : CoordView). Answers v.limits rose (whole_table v) (end_request d x) (reply.No (coord_refusal coord_error.Fault)) (table_of (with_coord v c))) (sym (fault (is_err ∙ ap (λ y. Err y) failed)))
+        (coord_fails v is whole tied v.limits rose (end_request d x) (decision_entry x d) (decision_fits x d fits) (early_end v.limits v x d own) (end_row v.limits v x d ∙ ap (option_map coord_refusal) none)
         (subst (λ (k : ℕ). RoseFor f g fs gs k) (ap (λ key. key.part) is.coord.key) (cause.failed (is_err ∙ ap (λ y. Err y) failed)))
-        (λ fails. end_succeeds v.limits rose (whole_table v) x d (reply.No (coord_refusal coord_error.Fault)) (table_of (with_coord v (fenced v.coord (decision_entry x d))))
-        (inr (subst (λ (b : Batch). AppendFails rose b (whole_table v) (reply.No (coord_refusal coord_error.Fault)) (table_of (with_coord v (fenced v.coord (decision_entry x d))))) (sym (batch_open v x d (is_open_now e is_err none (is_open (status_in_view v.coord x)) refl))) fails))))))))
+        (λ fails. end_succeeds v.limits rose (whole_table v) x d (reply.No (coord_refusal coord_error.Fault)) (table_of (with_coord v (with_failed_entry v.coord (decision_entry x d))))
+        (inr (subst (λ (b : EntryBatch). AppendFails rose b (whole_table v) (reply.No (coord_refusal coord_error.Fault)) (table_of (with_coord v (with_failed_entry v.coord (decision_entry x d))))) (sym (batch_open v x d (is_open_now e is_err none (is_open (status_in_view v.coord x)) refl))) fails))))))))
 
-    pub decided_granted : (s : Status) → result ≡ Ok s → IsGranted v.limits (table_of v) (end_of d x)
+    pub decided_granted : (s : Status) → result ≡ Ok s → IsGranted v.limits (table_of v) (end_request d x)
     decided_granted s is_ok =
-        subst (λ (t : TableState). IsGranted v.limits t (end_of d x)) (sym (table_is v is whole tied))
+        subst (λ (t : TableState). IsGranted v.limits t (end_request d x)) (sym (table_is v is whole tied))
         (record {
           early = early_end v.limits v x d own;
-          whole = stays v.limits rose v (uses (whole_world v) (end_of d x));
+          whole = stays v.limits rose v (uses (whole_world v) (end_request d x));
           late = end_row v.limits v x d ∙ ap (option_map coord_refusal) (no_refusal s is_ok);
         })
 
@@ -341,25 +341,25 @@ module _ (v : EngineView) (is : IsEngine v) (whole : IsWhole v) (x : TxnId) (d :
     allowed_open still_open tied lawful =
         let same_world : world_of v ≡ whole_world v = world_is v is whole tied in
         subst (IsAllowed (in_coord (decision_entry x d))) (sym same_world)
-        (subst (λ (b : Batch). IsAllowed b (whole_world v)) (batch_open v x d still_open) (decision_granted (whole_table v) x d (subst Lawful same_world lawful)).allowed)
+        (subst (λ (b : EntryBatch). IsAllowed b (whole_world v)) (batch_open v x d still_open) (decision_granted (whole_table v) x d (subst Lawful same_world lawful)).allowed)
 
     open_by : (e : CoordError) → result ≡ Err e → decide_refusal v.coord x d ≡ None → (b : Bool) → is_open (status_in_view v.coord x) ≡ b → is_open (status_in_view v.coord x) ≡ true
     open_by e is_err none true still_open = still_open
     open_by e is_err none false shut = absurd (err_not_ok result e is_err (repeated none shut))
 
-    pub decided_ok_goes : (s : Status) → result ≡ Ok s → c' ≡ decided v.coord x d → Goes on (result ≡ Err coord_error.Fault) v u old new
+    pub decided_ok_goes : (s : Status) → result ≡ Ok s → c' ≡ decided v.coord x d → EngineGoesOn on (result ≡ Err coord_error.Fault) v u old new
     decided_ok_goes s is_ok e = by_test (is_open (status_in_view v.coord x)) refl
       where
         never : result ≡ Err coord_error.Fault → ⊥
         never h = ok_not_err result s coord_error.Fault is_ok h
 
-        by_test : (b : Bool) → is_open (status_in_view v.coord x) ≡ b → Goes on (result ≡ Err coord_error.Fault) v u old new
+        by_test : (b : Bool) → is_open (status_in_view v.coord x) ≡ b → EngineGoesOn on (result ≡ Err coord_error.Fault) v u old new
         by_test true still_open =
             coord_goes on v is whole old new backed (result ≡ Err coord_error.Fault) (result ≡ Err coord_error.Fault) (decision_entry x d) u (decision_fits x d fits) (allowed_open still_open) refl refl
             (inl (decided_whole s is_ok e).coord) tie here since others cause (λ h. h)
         by_test false shut = still_goes on v is whole old new backed (result ≡ Err coord_error.Fault) never c' (e ∙ decided_shut v.coord x d shut) (idle shut)
 
-    pub decided_err_goes : (e : CoordError) → result ≡ Err e → ((e ≡ coord_error.Fault → ⊥) → c' ≡ v.coord) → ((e ≡ coord_error.Fault → ⊥) → new ≡ old) → Goes on (result ≡ Err coord_error.Fault) v u old new
+    pub decided_err_goes : (e : CoordError) → result ≡ Err e → ((e ≡ coord_error.Fault → ⊥) → c' ≡ v.coord) → ((e ≡ coord_error.Fault → ⊥) → new ≡ old) → EngineGoesOn on (result ≡ Err coord_error.Fault) v u old new
     decided_err_goes e is_err still quiet =
         goes_like on (is_fault (reply.No (coord_refusal e)) ≡ true) (result ≡ Err coord_error.Fault) v u old new
         (λ h. is_err ∙ ap (λ y. Err y) (fault_refusal e h)) (λ h. subst (λ (y : CoordError). is_fault (reply.No (coord_refusal y)) ≡ true) (sym (same_err result e coord_error.Fault is_err h)) refl)
@@ -370,7 +370,7 @@ module _ (v : EngineView) (is : IsEngine v) (whole : IsWhole v) (x : TxnId) (d :
 
 module _ (v : EngineView) (is : IsEngine v) (w : EngineView) (view : v ≡ w) (whole' : IsWhole w) (x : TxnId) (d : Decision) (fits : IsTxnId x) (result : Result Status CoordError) (c' : CoordView)
     (refused : MatchOption (decide_refusal v.coord x d) (MayFail result) (λ y. result ≡ Err y)) (repeated : decide_refusal v.coord x d ≡ None → is_open (status_in_view v.coord x) ≡ false → IsOk result)
-    (now : OnOk result (c' ≡ decided v.coord x d)) (fault : result ≡ Err coord_error.Fault → c' ≡ fenced v.coord (decision_entry x d)) (same : IfErr result (λ e. (e ≡ coord_error.Fault → ⊥) → c' ≡ v.coord)) where
+    (now : OnOk result (c' ≡ decided v.coord x d)) (fault : result ≡ Err coord_error.Fault → c' ≡ with_failed_entry v.coord (decision_entry x d)) (same : IfErr result (λ e. (e ≡ coord_error.Fault → ⊥) → c' ≡ v.coord)) where
   whole_here : IsWhole v
   whole_here = subst IsWhole (sym view) whole'
 
@@ -404,10 +404,10 @@ module _ (v : EngineView) (is : IsEngine v) (w : EngineView) (view : v ≡ w) (w
     tied_here : IsTied v
     tied_here = subst IsTied (sym view) tied'
 
-    pub granted_clause : OnOk result (IsGranted w.limits (table_of w) (end_of d x))
+    pub granted_clause : OnOk result (IsGranted w.limits (table_of w) (end_request d x))
     granted_clause =
-        on_ok result (IsGranted w.limits (table_of w) (end_of d x))
-        (λ s is_ok. subst (λ (z : EngineView). IsGranted z.limits (table_of z) (end_of d x)) view
+        on_ok result (IsGranted w.limits (table_of w) (end_request d x))
+        (λ s is_ok. subst (λ (z : EngineView). IsGranted z.limits (table_of z) (end_request d x)) view
         (decided_granted v is whole_here x d fits result c' refused repeated now fault same own_here tied_here 0 0 (λ p. 0) (λ p. 0) 0 s is_ok))
 
     pub settled_clause : OnOk result (table_of (with_coord v c') ≡ with_batch (decision_batch (table_of w) x d) (table_of w))
@@ -416,28 +416,28 @@ module _ (v : EngineView) (is : IsEngine v) (w : EngineView) (view : v ≡ w) (w
         (λ s is_ok. subst (λ (z : EngineView). table_of (with_coord v c') ≡ with_batch (decision_batch (table_of z) x d) (table_of z)) view
         (decided_settled v is whole_here x d fits result c' refused repeated now fault same own_here tied_here 0 0 (λ p. 0) (λ p. 0) 0 s is_ok (grown s is_ok) (record { coord = tie tied_here.coord; topics = tied_here.topics })))
 
-    pub refused_clause : (f g : ℕ) (fs gs : ℕ → ℕ) → CountsFaults v.coord.content.key.part f g fs gs (result ≡ Err coord_error.Fault) → IfErr result (λ e. (m : ℕ) → MayTell f g fs gs w (end_of d x) m (reply.No (coord_refusal e)) (with_coord v c'))
+    pub refused_clause : (f g : ℕ) (fs gs : ℕ → ℕ) → CountsFaults v.coord.content.key.part f g fs gs (result ≡ Err coord_error.Fault) → IfErr result (λ e. (m : ℕ) → MayTell f g fs gs w (end_request d x) m (reply.No (coord_refusal e)) (with_coord v c'))
     refused_clause f g fs gs cause =
-        if_err result (λ e. (m : ℕ) → MayTell f g fs gs w (end_of d x) m (reply.No (coord_refusal e)) (with_coord v c'))
-        (λ e is_err m. subst (λ (z : EngineView). MayTell f g fs gs z (end_of d x) m (reply.No (coord_refusal e)) (with_coord v c')) view
+        if_err result (λ e. (m : ℕ) → MayTell f g fs gs w (end_request d x) m (reply.No (coord_refusal e)) (with_coord v c'))
+        (λ e is_err m. subst (λ (z : EngineView). MayTell f g fs gs z (end_request d x) m (reply.No (coord_refusal e)) (with_coord v c')) view
         (refused_told v is whole_here x d fits result c' refused repeated now fault same own_here tied_here f g fs gs m e is_err (still e is_err) cause))
 
   module _ {D : Type 0} (on : Ghosts D) (old new : D) (backed' : IsBacked (on.image old) w) where
     pub goes_clause : (idle : is_open (status_in_view v.coord x) ≡ false → new ≡ old) (unwritten : IfErr result (λ e. (e ≡ coord_error.Fault → ⊥) → new ≡ old)) (tie : coordinator.IsFrontOf v.coord → coordinator.IsFrontOf c') (here : Backed StandsIn (on.image new) c'.content)
         (since : After on (Appends IsFile StandsIn v.coord.content (coord_batch (decision_entry x d))) old new) (others : Elsewhere v.coord.content.key (on.seen old) (on.seen new)) (cause : FaultsIn on v.coord.content.key.part old new (result ≡ Err coord_error.Fault))
-        → Goes on (result ≡ Err coord_error.Fault) w (with_coord v c') old new
+        → EngineGoesOn on (result ≡ Err coord_error.Fault) w (with_coord v c') old new
     goes_clause idle unwritten tie here since others cause =
         let backed : IsBacked (on.image old) v = subst (IsBacked (on.image old)) (sym view) backed' in
-        subst (λ (z : EngineView). Goes on (result ≡ Err coord_error.Fault) z (with_coord v c') old new) view
-        (by_result result (Goes on (result ≡ Err coord_error.Fault) v (with_coord v c') old new)
+        subst (λ (z : EngineView). EngineGoesOn on (result ≡ Err coord_error.Fault) z (with_coord v c') old new) view
+        (by_result result (EngineGoesOn on (result ≡ Err coord_error.Fault) v (with_coord v c') old new)
         (λ s is_ok. decided_ok_goes v is whole_here x d fits result c' refused repeated now fault same on old new backed idle unwritten tie here since others cause s is_ok (grown s is_ok))
         (λ e is_err. decided_err_goes v is whole_here x d fits result c' refused repeated now fault same on old new backed idle unwritten tie here since others cause e is_err (still e is_err)
         (from_err result (λ e. (e ≡ coord_error.Fault → ⊥) → new ≡ old) e is_err unwritten)))
 
 -- ---- A transaction of another coordinator.
 
-pub foreign_told : (v : EngineView) (is : IsEngine v) (whole : IsWhole v) (tied : IsTied v) (f g : ℕ) (fs gs : ℕ → ℕ) (m : ℕ) (x : TxnId) (d : Decision) → (x.most == 0) ≡ false → MayTell f g fs gs v (end_of d x) m (reply.No (no.UnknownCoordinator x.most)) v
+pub foreign_told : (v : EngineView) (is : IsEngine v) (whole : IsWhole v) (tied : IsTied v) (f g : ℕ) (fs gs : ℕ → ℕ) (m : ℕ) (x : TxnId) (d : Decision) → (x.most == 0) ≡ false → MayTell f g fs gs v (end_request d x) m (reply.No (no.UnknownCoordinator x.most)) v
 foreign_told v is whole tied f g fs gs m x d other =
-    short_told f g fs gs v (end_of d x) m (reply.No (no.UnknownCoordinator x.most)) v refl
+    short_told f g fs gs v (end_request d x) m (reply.No (no.UnknownCoordinator x.most)) v refl
     (at_once v.limits v x d (RoseFor f g fs gs) m (table_of v) (reply.No (no.UnknownCoordinator x.most)) (table_of v)
-    (row_told v is whole tied v.limits (RoseFor f g fs gs) (end_of d x) (no.UnknownCoordinator x.most) (foreign_end v.limits v x d other)))
+    (row_told v is whole tied v.limits (RoseFor f g fs gs) (end_request d x) (no.UnknownCoordinator x.most) (foreign_end v.limits v x d other)))

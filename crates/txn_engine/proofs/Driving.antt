@@ -14,7 +14,7 @@ use Rattle.txn_model.specs.Coord.{decision_of, closing_of, parts_of, closed, dec
 use Rattle.txn_model.specs.Drive.{MarksAll, StopsWithin, Drives, already, closes, close_fault, stops, ended}
 use Rattle.txn_model.specs.Names.{name_of}
 use Rattle.txn_model.specs.Skeletons.{coord_skeletons}
-use Rattle.txn_model.specs.Table.{TableState, closing_batch, fenced_by, settled as with_batch}
+use Rattle.txn_model.specs.Table.{TableState, closing_batch, with_failed_batch, with_batch}
 use Rattle.txn_wire.specs.Short.{IsPartName}
 use Rattle.txn_engine.specs.Kept.{IsEngine}
 use Rattle.txn_engine.specs.Table.{table_of}
@@ -64,7 +64,7 @@ module _ (v : EngineView) (is : IsEngine v) (whole : IsWhole v) (tied : IsTied v
       marks_here : MarksAll x d (parts_of log x) (whole_table v) mid
       marks_here = subst (λ (t : TableState). MarksAll x d (parts_of log x) t mid) (table_is v is whole tied) marks
 
-      pub close_fault_told : (told : Outcome) (t' : TableState) → told ≡ stuck_by d (codes "@coordinator") → rose 0 → t' ≡ fenced_by (closing_batch x d) 0 mid → Drives rose x (table_of v) told t'
+      pub close_fault_told : (told : Outcome) (t' : TableState) → told ≡ stuck_by d (codes "@coordinator") → rose 0 → t' ≡ with_failed_batch (closing_batch x d) 0 mid → Drives rose x (table_of v) told t'
       close_fault_told told t' e grew after = over_whole (stuck_by d (codes "@coordinator")) told t' e (close_fault d unclosed decided mid marks_here grew refl after)
 
       pub closes_told : (s : Status) (t' : TableState) → s ≡ closed d → t' ≡ with_batch (closing_batch x d) mid → Drives rose x (table_of v) (record { status = s; stuck = None }) t'

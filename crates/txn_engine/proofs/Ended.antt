@@ -18,11 +18,11 @@ use Rattle.txn_model.specs.Answers.{early, granted, no_memory}
 use Rattle.txn_model.specs.Drive.{StopsAt, recovery_fault, recovery_memory, marker_memory, marker_fault, StopsWithin, Drives, already, closes, close_fault, stops}
 use Rattle.txn_model.specs.EarlyRows.{early_refusal}
 use Rattle.txn_model.specs.Replies.{is_fault}
-use Rattle.txn_model.specs.Table.{TableState, decision_batch, settled as with_batch}
-use Rattle.txn_engine.specs.Ending.{end_of, IsGranted}
+use Rattle.txn_model.specs.Table.{TableState, decision_batch, with_batch}
+use Rattle.txn_engine.specs.Ending.{end_request, IsGranted}
 use Rattle.txn_engine.specs.Refusals.{coord_refusal}
 use Rattle.txn_engine.specs.Table.{table_of}
-use Rattle.txn_engine.specs.Told.{MayTell, RoseFor, Goes}
+use Rattle.txn_engine.specs.Told.{MayTell, RoseFor, EngineGoesOn}
 use Rattle.txn_engine.specs.View.{EngineView}
 use Rattle.txn_engine.proofs.Begun.{short_told}
 use Rattle.txn_engine.proofs.BegunGoes.{fault_refusal}
@@ -55,34 +55,34 @@ module _ (f g : ℕ) (fs gs : ℕ → ℕ) (v : EngineView) (x : TxnId) (d : Dec
   abbrev rose : ℕ → Type 0
   rose = RoseFor f g fs gs
 
-  pub ended_told : IsGranted v.limits (table_of v) (end_of d x) → (u w : EngineView) → table_of u ≡ with_batch (decision_batch (table_of v) x d) (table_of v) → (before : ℕ → Type 0) → ((p : ℕ) → before p → rose p) → (outcome : Outcome) → Drives before x (table_of u) outcome (table_of w)
-      → MayTell f g fs gs v (end_of d x) m (reply.Ended d outcome) w
+  pub ended_told : IsGranted v.limits (table_of v) (end_request d x) → (u w : EngineView) → table_of u ≡ with_batch (decision_batch (table_of v) x d) (table_of v) → (before : ℕ → Type 0) → ((p : ℕ) → before p → rose p) → (outcome : Outcome) → Drives before x (table_of u) outcome (table_of w)
+      → MayTell f g fs gs v (end_request d x) m (reply.Ended d outcome) w
   ended_told free u w settled before more outcome drives =
-      short_told f g fs gs v (end_of d x) m (reply.Ended d outcome) w refl
+      short_told f g fs gs v (end_request d x) m (reply.Ended d outcome) w refl
       (at_once v.limits v x d rose m (table_of v) (reply.Ended d outcome) (table_of w)
       (granted free.early (table_of v) free.whole free.late
       (end_succeeds v.limits rose (table_of v) x d (reply.Ended d outcome) (table_of w)
       (inl (outcome, subst (λ (t : TableState). Drives rose x t outcome (table_of w)) settled (drives_wider before rose more x (table_of u) outcome (table_of w) drives), refl)))))
 
-  foreign_row : (limits : Limits) (w : World) (d : Decision) → (x.most == 0) ≡ false → early_refusal limits w (end_of d x) ≡ Some (no.UnknownCoordinator x.most)
+  foreign_row : (limits : Limits) (w : World) (d : Decision) → (x.most == 0) ≡ false → early_refusal limits w (end_request d x) ≡ Some (no.UnknownCoordinator x.most)
   foreign_row limits w Commit other = rw other refl
   foreign_row limits w Abort other = rw other refl
 
-  pub foreign_end_told : (x.most == 0) ≡ false → MayTell f g fs gs v (end_of d x) m (reply.No (no.UnknownCoordinator x.most)) v
+  pub foreign_end_told : (x.most == 0) ≡ false → MayTell f g fs gs v (end_request d x) m (reply.No (no.UnknownCoordinator x.most)) v
   foreign_end_told other =
-      short_told f g fs gs v (end_of d x) m (reply.No (no.UnknownCoordinator x.most)) v refl
+      short_told f g fs gs v (end_request d x) m (reply.No (no.UnknownCoordinator x.most)) v refl
       (at_once v.limits v x d rose m (table_of v) (reply.No (no.UnknownCoordinator x.most)) (table_of v) (early (no.UnknownCoordinator x.most) (foreign_row v.limits (table_of v).world d other) refl refl))
 
   -- memory ran out, before anything but room was taken
-  pub end_memory_told : (w : EngineView) → table_of w ≡ table_of v → MayTell f g fs gs v (end_of d x) m (reply.No no.NoMemory) w
+  pub end_memory_told : (w : EngineView) → table_of w ≡ table_of v → MayTell f g fs gs v (end_request d x) m (reply.No no.NoMemory) w
   end_memory_told w same =
-      short_told f g fs gs v (end_of d x) m (reply.No no.NoMemory) w refl (at_once v.limits v x d rose m (table_of v) (reply.No no.NoMemory) (table_of w) (no_memory refl same))
+      short_told f g fs gs v (end_request d x) m (reply.No no.NoMemory) w refl (at_once v.limits v x d rose m (table_of v) (reply.No no.NoMemory) (table_of w) (no_memory refl same))
 
 -- ---- A refusal of the coordinator.
 
 module _ {D : Type 0} (on : Ghosts D) where
-  pub refused_goes : (r : Result Status CoordError) (e : CoordError) → r ≡ Err e → (row : Refusal) → row ≡ coord_refusal e → (v w : EngineView) (old new : D) → Goes on (r ≡ Err coord_error.Fault) v w old new
-      → Goes on (is_fault (reply.No row) ≡ true) v w old new
+  pub refused_goes : (r : Result Status CoordError) (e : CoordError) → r ≡ Err e → (row : Refusal) → row ≡ coord_refusal e → (v w : EngineView) (old new : D) → EngineGoesOn on (r ≡ Err coord_error.Fault) v w old new
+      → EngineGoesOn on (is_fault (reply.No row) ≡ true) v w old new
   refused_goes r e is_err row is v w old new goes =
       goes_like on (r ≡ Err coord_error.Fault) (is_fault (reply.No row) ≡ true) v w old new
       (λ h. ap (λ (y : Refusal). is_fault (reply.No y)) (is ∙ ap coord_refusal (same r e coord_error.Fault is_err h)))

@@ -20,14 +20,14 @@ use Rattle.txn_model.specs.Sound.{ledger_file, RecordsOf, IsBareRecord}
 use Rattle.txn_model.specs.Table.{in_coord, in_topic}
 use Rattle.txn_model.specs.World.{Lawful}
 use Rattle.txn_buffer.specs.View as topic
-use Rattle.txn_buffer.specs.View.{TopicView, batch_of}
+use Rattle.txn_buffer.specs.View.{TopicView, topic_batch}
 use Rattle.txn_coordinator.specs.View as coordinator
 use Rattle.txn_coordinator.specs.View.{CoordView, coord_batch}
 use Rattle.txn_engine.specs.Above.{StandsAbove, KeepsAbove, KeepsAboveIf}
 use Rattle.txn_engine.specs.Files.{OnlyLedgers}
 use Rattle.txn_engine.specs.Kept.{AreTopics, IsEngine}
 use Rattle.txn_engine.specs.Table.{world_of}
-use Rattle.txn_engine.specs.Told.{CountsWithin, Goes, FaultsWithin}
+use Rattle.txn_engine.specs.Told.{CountsWithin, EngineGoesOn, FaultsWithin}
 use Rattle.txn_engine.specs.View.{EngineView, IsWhole, IsTied, IsBacked, replaced}
 use Rattle.txn_engine.proofs.Above.{coord_above, topic_above}
 use Rattle.txn_engine.proofs.Files.{only_one, only_then, images_append, images_then}
@@ -114,7 +114,7 @@ module _ {D : Type 0} (on : Ghosts D) where
 
   module _ where
     -- nothing happened to a part, or to the disk
-    pub goes_still : (X : Type 0) → (X → ⊥) → (v v' : EngineView) (disk : D) → IsWhole v → IsBacked (on.image disk) v → v'.names ≡ v.names → v'.coord ≡ v.coord → v'.topics ≡ v.topics → Goes on X v v' disk disk
+    pub goes_still : (X : Type 0) → (X → ⊥) → (v v' : EngineView) (disk : D) → IsWhole v → IsBacked (on.image disk) v → v'.names ≡ v.names → v'.coord ≡ v.coord → v'.topics ≡ v.topics → EngineGoesOn on X v v' disk disk
     goes_still X none v v' disk whole backed names coord topics = record {
       names = names;
       whole = inl (record { coord = subst (λ (c : CoordView). IsTrue c.whole) (sym coord) whole.coord; topics = subst (λ (ts : List TopicView). All (λ t. IsTrue t.whole) ts) (sym topics) whole.topics });
@@ -130,7 +130,7 @@ module _ {D : Type 0} (on : Ghosts D) where
     }
 
     -- the same from a view with the same parts
-    pub goes_from : (X : Type 0) (u v v' : EngineView) (old new : D) → v.names ≡ u.names → v.coord ≡ u.coord → v.topics ≡ u.topics → Goes on X v v' old new → Goes on X u v' old new
+    pub goes_from : (X : Type 0) (u v v' : EngineView) (old new : D) → v.names ≡ u.names → v.coord ≡ u.coord → v.topics ≡ u.topics → EngineGoesOn on X v v' old new → EngineGoesOn on X u v' old new
     goes_from X u v v' old new names coord topics goes =
         let tied : IsTied u → IsTied v =
         λ was. record { coord = subst coordinator.IsFrontOf (sym coord) was.coord; topics = subst (All topic.IsFrontOf) (sym topics) was.topics } in
@@ -147,7 +147,7 @@ module _ {D : Type 0} (on : Ghosts D) where
         }
 
     -- by a word that means the same
-    pub goes_like : (X Y : Type 0) (v v' : EngineView) (old new : D) → (X → Y) → (Y → X) → Goes on X v v' old new → Goes on Y v v' old new
+    pub goes_like : (X Y : Type 0) (v v' : EngineView) (old new : D) → (X → Y) → (Y → X) → EngineGoesOn on X v v' old new → EngineGoesOn on Y v v' old new
     goes_like X Y v v' old new to from goes = record {
       names = goes.names;
       whole = ⊎_elim (λ yes. inl yes) (λ x. inr (to x)) goes.whole;
@@ -160,7 +160,7 @@ module _ {D : Type 0} (on : Ghosts D) where
     }
 
     -- one call after another, the first of which met no fault
-    pub goes_then : (X Y : Type 0) (u v w : EngineView) (old mid new : D) → Goes on X u v old mid → Goes on Y v w mid new → Goes on Y u w old new
+    pub goes_then : (X Y : Type 0) (u v w : EngineView) (old mid new : D) → EngineGoesOn on X u v old mid → EngineGoesOn on Y v w mid new → EngineGoesOn on Y u w old new
     goes_then X Y u v w old mid new one two = record {
       names = two.names ∙ one.names;
       whole = two.whole;
@@ -181,7 +181,7 @@ module _ {D : Type 0} (on : Ghosts D) where
       -- an entry of the coordinator
       pub coord_goes : (X Y : Type 0) (e : CoordEntry) (v' : EngineView) → IsCoordEntry e → (IsTied v → Lawful (world_of v) → IsAllowed (in_coord e) (world_of v)) → v'.names ≡ v.names → v'.topics ≡ v.topics → IsTrue v'.coord.whole ⊎ X
           → (coordinator.IsFrontOf v.coord → coordinator.IsFrontOf v'.coord) → Backed StandsIn (on.image new) v'.coord.content → After on (Appends IsFile StandsIn v.coord.content (coord_batch e)) old new → Elsewhere v.coord.content.key (on.seen old) (on.seen new)
-          → FaultsIn on v.coord.content.key.part old new Y → (X → Y) → Goes on X v v' old new
+          → FaultsIn on v.coord.content.key.part old new Y → (X → Y) → EngineGoesOn on X v v' old new
       coord_goes X Y e v' fits allowed names topics now tied coord_backed since others cause means = record {
         names = names;
         whole = ⊎_elim (λ yes. inl (record { coord = yes; topics = subst (λ (ts : List TopicView). All (λ t. IsTrue t.whole) ts) (sym topics) whole.topics })) (λ x. inr x) now;
@@ -204,10 +204,10 @@ module _ {D : Type 0} (on : Ghosts D) where
         abbrev at : TopicView
         at = get_or v.topics j (some_topic v)
 
-        pub topic_goes : (X Y : Type 0) (es : List TopicEntry) (t : TopicView) (v' : EngineView) → at.content.key ≡ ledger_file (1 + j) → RecordsOf IsBareRecord (records (batch_of es ∷ [])) es → (IsTied v → Lawful (world_of v) → IsAllowed (in_topic (1 + j) es) (world_of v))
+        pub topic_goes : (X Y : Type 0) (es : List TopicEntry) (t : TopicView) (v' : EngineView) → at.content.key ≡ ledger_file (1 + j) → RecordsOf IsBareRecord (records (topic_batch es ∷ [])) es → (IsTied v → Lawful (world_of v) → IsAllowed (in_topic (1 + j) es) (world_of v))
             → v'.names ≡ v.names → v'.coord ≡ v.coord → v'.topics ≡ replaced v.topics j t → IsTrue t.whole ⊎ X
-            → (topic.IsFrontOf at → topic.IsFrontOf t) → Backed StandsIn (on.image new) t.content → After on (Appends IsFile StandsIn at.content (batch_of es)) old new → Elsewhere at.content.key (on.seen old) (on.seen new)
-            → FaultsIn on at.content.key.part old new Y → (X → Y) → Goes on X v v' old new
+            → (topic.IsFrontOf at → topic.IsFrontOf t) → Backed StandsIn (on.image new) t.content → After on (Appends IsFile StandsIn at.content (topic_batch es)) old new → Elsewhere at.content.key (on.seen old) (on.seen new)
+            → FaultsIn on at.content.key.part old new Y → (X → Y) → EngineGoesOn on X v v' old new
         topic_goes X Y es t v' key each allowed names coord topics now tied here since others cause means = record {
           names = names;
           whole = ⊎_elim (λ yes. inl (record {
@@ -219,13 +219,13 @@ module _ {D : Type 0} (on : Ghosts D) where
             topics = subst (All topic.IsFrontOf) (sym topics) (all_replaced topic.IsFrontOf v.topics j t (tied (at_index topic.IsFrontOf v.topics j (some_topic v) below was.topics)) was.topics);
           };
           backed = record {
-            coord = subst (λ (c : CoordView). Backed StandsIn (on.image new) c.content) (sym coord) (coord_still_backed old new at.content (batch_of es) since (1 + j) v.coord.content key (omega arith) is.coord.key backed.coord);
+            coord = subst (λ (c : CoordView). Backed StandsIn (on.image new) c.content) (sym coord) (coord_still_backed old new at.content (topic_batch es) since (1 + j) v.coord.content key (omega arith) is.coord.key backed.coord);
             topics = subst (λ (ts : List TopicView). All (λ t. Backed StandsIn (on.image new) t.content) ts) (sym topics)
-                (topics_backed_but old new at.content (batch_of es) since v.limits (1 + j) 1 j v.topics t key refl here is.topics backed.topics);
+                (topics_backed_but old new at.content (topic_batch es) since v.limits (1 + j) 1 j v.topics t key refl here is.topics backed.topics);
           };
-          images = weaker on (Appends IsFile StandsIn at.content (batch_of es)) (KeepsAboveIf (IsTied v) v.names) old new
+          images = weaker on (Appends IsFile StandsIn at.content (topic_batch es)) (KeepsAboveIf (IsTied v) v.names) old new
               (λ d c from step was. topic_above v is whole (on.image old) backed j below es each (allowed was) d c from step) since;
-          elsewhere = images_append on (length v.names) (1 + j) at.content (batch_of es) old new key (omega (arith, below, is.count)) since;
+          elsewhere = images_append on (length v.names) (1 + j) at.content (topic_batch es) old new key (omega (arith, below, is.count)) since;
           others = only_one (length v.names) (1 + j) at.content.key (on.seen old) (on.seen new) key (omega (arith, below, is.count)) others;
           cause = counts_of (length v.names) at.content.key.part (on.faults old) (on.faults new) (on.part_faults old) (on.part_faults new) Y X
               (subst (λ (f : FileId). f.part ≤ length v.names) (sym key) (omega (arith, below, is.count))) means cause;

@@ -134,28 +134,28 @@ flight_at k (u ∷ us) (suc i) t es p0 e h flies all p =
 not_true : (b : Bool) → IsTrue b → not b ≡ false
 not_true b h = ap not h
 
-fence_step : (b x rest : Bool) → x ≡ false → rest ≡ false → (if b then x else rest) ≡ false
-fence_step true x rest e h = e
-fence_step false x rest e h = h
+unrebuilt_step : (b x rest : Bool) → x ≡ false → rest ≡ false → (if b then x else rest) ≡ false
+unrebuilt_step true x rest e h = e
+unrebuilt_step false x rest e h = h
 
 pub none_unrebuilt : (k : ℕ) (ts : List TopicView) → All (λ t. IsTrue t.whole) ts → (p : ℕ) → unrebuilt_from k ts p ≡ false
 none_unrebuilt k [] all p = refl
 none_unrebuilt k (u ∷ us) all p =
-    fence_step (p == k) (not u.whole) (unrebuilt_from (suc k) us p) (not_true u.whole (All-head (λ t. IsTrue t.whole) u us all)) (none_unrebuilt (suc k) us (All-tail (λ t. IsTrue t.whole) u us all) p)
+    unrebuilt_step (p == k) (not u.whole) (unrebuilt_from (suc k) us p) (not_true u.whole (All-head (λ t. IsTrue t.whole) u us all)) (none_unrebuilt (suc k) us (All-tail (λ t. IsTrue t.whole) u us all) p)
 
 pub unrebuilt_at : (k : ℕ) (ts : List TopicView) (i : ℕ) (t : TopicView) (p0 : ℕ) → p0 ≡ k + i → i < length ts → t.whole ≡ false → All (λ t. IsTrue t.whole) ts → (p : ℕ) → unrebuilt_from k (replaced ts i t) p ≡ (if p == p0 then true else false)
-unrebuilt_at k [] i t p0 e h fenced all p = absurd (never_below i h)
-unrebuilt_at k (u ∷ us) zero t p0 e h fenced all p = by_test (p == k) refl
+unrebuilt_at k [] i t p0 e h unrebuilt all p = absurd (never_below i h)
+unrebuilt_at k (u ∷ us) zero t p0 e h unrebuilt all p = by_test (p == k) refl
   where
     turned : (b : Bool) → (p == k) ≡ b → (p == p0) ≡ b
     turned true q = grind (arith, nat_tests, q, e)
     turned false q = grind (arith, nat_tests, q, e)
 
     by_test : (b : Bool) → (p == k) ≡ b → (if p == k then not t.whole else unrebuilt_from (suc k) us p) ≡ (if p == p0 then true else false)
-    by_test true q = rw (q, turned true q) (ap not fenced)
+    by_test true q = rw (q, turned true q) (ap not unrebuilt)
     by_test false q = rw (q, turned false q) (none_unrebuilt (suc k) us (All-tail (λ t. IsTrue t.whole) u us all) p)
-unrebuilt_at k (u ∷ us) (suc i) t p0 e h fenced all p =
-    by_test (p == k) refl (unrebuilt_at (suc k) us i t p0 (omega (arith, e)) (omega (arith, h)) fenced (All-tail (λ t. IsTrue t.whole) u us all) p)
+unrebuilt_at k (u ∷ us) (suc i) t p0 e h unrebuilt all p =
+    by_test (p == k) refl (unrebuilt_at (suc k) us i t p0 (omega (arith, e)) (omega (arith, h)) unrebuilt (All-tail (λ t. IsTrue t.whole) u us all) p)
   where
     other : (p == k) ≡ true → (p == p0) ≡ false
     other q = grind (arith, nat_tests, q, e)

@@ -13,19 +13,19 @@ use Rattle.txn_buffer.specs.View.{TopicView}
 use Rattle.txn_model.specs.Coord.{CoordLawful, in_parts, parts_of}
 use Rattle.txn_model.specs.Drive.{Rebuilds, MarksAll, StopsWithin, marker_fault}
 use Rattle.txn_model.specs.Skeletons.{coord_skeletons, topic_skeletons}
-use Rattle.txn_model.specs.Table.{is_fenced, marker_batch, marked, fenced_by}
+use Rattle.txn_model.specs.Table.{is_unrebuilt, marker_batch, marked, with_failed_batch}
 use Rattle.txn_model.specs.Topic.{marker_of}
 use Rattle.txn_model.specs.World.{part_skeletons}
 use Rattle.txn_model.proofs.Laws.Names.{few_names}
 use Rattle.txn_engine.specs.Ending.{AreReady, AreMarked, IsElsewhere}
 use Rattle.txn_engine.specs.Kept.{IsEngine}
 use Rattle.txn_engine.specs.Table.{table_of, unrebuilt_from}
-use Rattle.txn_engine.specs.Told.{Goes}
+use Rattle.txn_engine.specs.Told.{EngineGoesOn}
 use Rattle.txn_engine.specs.View.{EngineView, IsWhole, IsTied, IsBacked}
 use Rattle.txn_engine.proofs.Going.{goes_still, goes_then, goes_like, rose_then}
 use Rattle.txn_engine.proofs.Lists.{none_unrebuilt}
 use Rattle.txn_engine.proofs.Marked.{from_ok_err}
-use Rattle.txn_engine.proofs.Parts.{rest_of, rest_has, rest_without, rest_ends, Marking, marking_starts, marking_more, marking_ends, marking_stops}
+use Rattle.txn_engine.proofs.Parts.{parts_past, rest_has, rest_without, rest_ends, Marking, marking_starts, marking_more, marking_ends, marking_stops}
 
 -- ---- What the bits say.
 
@@ -60,11 +60,11 @@ whole_step : (b x rest : Bool) → x ≡ false → rest ≡ false → (if b then
 whole_step true x rest e h = e
 whole_step false x rest e h = h
 
-pub not_fenced : (v : EngineView) → IsWhole v → (p : ℕ) → is_fenced (table_of v) p ≡ false
-not_fenced v whole p = whole_step (p == 0) (not v.coord.whole) (unrebuilt_from 1 v.topics p) (ap not whole.coord) (none_unrebuilt 1 v.topics whole.topics p)
+pub not_unrebuilt : (v : EngineView) → IsWhole v → (p : ℕ) → is_unrebuilt (table_of v) p ≡ false
+not_unrebuilt v whole p = whole_step (p == 0) (not v.coord.whole) (unrebuilt_from 1 v.topics p) (ap not whole.coord) (none_unrebuilt 1 v.topics whole.topics p)
 
 pub rebuilds_here : (v : EngineView) → IsWhole v → (p : ℕ) → Rebuilds p (table_of v) (table_of v)
-rebuilds_here v whole p = by_test (is_fenced (table_of v) p) _ (not_fenced v whole p)
+rebuilds_here v whole p = by_test (is_unrebuilt (table_of v) p) _ (not_unrebuilt v whole p)
   where
     never : true ≡ false → ⊥
     never e = cc
@@ -85,8 +85,8 @@ pub record MarksUpTo {D : Type 0} (on : Ghosts D) (tells : Type 0) (x : TxnId) (
   pub whole : IsWhole u
   pub ready : (j : ℕ) (t : TopicView) → at ≤ j → j < length u.topics → in_parts (coord_skeletons v.coord.front) x (1 + j) ≡ true → (slice_index_or u.topics j t).reserved ≡ 1
   pub given : AreMarked x u at
-  pub marking : tells → IsTied v → Marking x d (parts_of (coord_skeletons v.coord.front) x) (rest_of (coord_skeletons v.coord.front) x at) (table_of v) (table_of u)
-  pub goes : Goes on ⊥ v u old now
+  pub marking : tells → IsTied v → Marking x d (parts_of (coord_skeletons v.coord.front) x) (parts_past (coord_skeletons v.coord.front) x at) (table_of v) (table_of u)
+  pub goes : EngineGoesOn on ⊥ v u old now
 
 module _ {D : Type 0} (on : Ghosts D) (tells : Type 0) (x : TxnId) (d : Decision) where
   abbrev UpTo : EngineView → EngineView → D → D → ℕ → Type 0
@@ -159,7 +159,7 @@ module _ {D : Type 0} (on : Ghosts D) (tells : Type 0) (x : TxnId) (d : Decision
           self : (k : ℕ) → k ≤ k
           self k = omega arith
 
-      module _ (w : EngineView) (new : D) (r : Result (Unit {0}) Failed) (elsewhere : IsElsewhere at u w) (goes : Goes on (IsErr r) u w now new) where
+      module _ (w : EngineView) (new : D) (r : Result (Unit {0}) Failed) (elsewhere : IsElsewhere at u w) (goes : EngineGoesOn on (IsErr r) u w now new) where
         pub loop_marks : IsOk r → (tells → IsTied u → OnOk r (table_of w ≡ marked x d (1 + at) (table_of u))) → OnOk r ((t : TopicView) → is_some (marker_of (topic_skeletons (slice_index_or w.topics at t).front) x) ≡ true) → UpTo v w old new (at + 1)
         loop_marks is_ok ok stands = record {
           within = omega (arith, below, elsewhere.count);
@@ -172,7 +172,7 @@ module _ {D : Type 0} (on : Ghosts D) (tells : Type 0) (x : TxnId) (d : Decision
               ap (λ (k : TopicView). k.reserved) (elsewhere.topics j t (apart at j from)) ∙ so.ready j t (earlier at j from) (omega (arith, within, elsewhere.count)) in_it;
           given = λ j t before within in_it. given_by j t (j == at) refl before within in_it;
           marking = λ told tied.
-              marking_more x d (parts_of log x) (1 + at) (rest_of log x at) (rest_of log x (at + 1)) (table_of v) (table_of u) (table_of w) (so.marking told tied) (rest_has log x at has few_here)
+              marking_more x d (parts_of log x) (1 + at) (parts_past log x at) (parts_past log x (at + 1)) (table_of v) (table_of u) (table_of w) (so.marking told tied) (rest_has log x at has few_here)
               (rebuilds_here u so.whole (1 + at)) (from_is_ok (ok told (so.goes.tied tied)));
           goes = goes_like on (IsErr r) ⊥ v w old new (λ err. no_err err) (λ e. absurd e) (goes_then on ⊥ (IsErr r) v u w old now new so.goes goes);
         }
@@ -217,17 +217,17 @@ module _ {D : Type 0} (on : Ghosts D) (tells : Type 0) (x : TxnId) (d : Decision
                 ∙ so.given j t (before_it at j before e) (omega (arith, within, elsewhere.count)) (ap (λ c. in_parts (coord_skeletons c.front) x (1 + j)) (sym elsewhere.coord) ∙ in_it)
 
         -- its append failed
-        pub loop_stops : IsErr r → (tells → IsTied u → OnErr r ((is_none (marker_of (part_skeletons (table_of u).world (1 + at)) x) ≡ true) × (table_of w ≡ fenced_by (marker_batch (table_of u) x d (1 + at)) (1 + at) (table_of u))))
+        pub loop_stops : IsErr r → (tells → IsTied u → OnErr r ((is_none (marker_of (part_skeletons (table_of u).world (1 + at)) x) ≡ true) × (table_of w ≡ with_failed_batch (marker_batch (table_of u) x d (1 + at)) (1 + at) (table_of u))))
             → OnErr r (RoseIn on now new (1 + at)) → tells → IsTied v
             → StopsWithin (RoseIn on old new) x d (parts_of log x) (1 + at) (table_of v) why.Fault (table_of w)
         loop_stops is_err err rose told tied =
-            let failed = from_ok_err r ((is_none (marker_of (part_skeletons (table_of u).world (1 + at)) x) ≡ true) × (table_of w ≡ fenced_by (marker_batch (table_of u) x d (1 + at)) (1 + at) (table_of u))) is_err (err told (so.goes.tied tied)) in
+            let failed = from_ok_err r ((is_none (marker_of (part_skeletons (table_of u).world (1 + at)) x) ≡ true) × (table_of w ≡ with_failed_batch (marker_batch (table_of u) x d (1 + at)) (1 + at) (table_of u))) is_err (err told (so.goes.tied tied)) in
             let grew = from_ok_err r (RoseIn on now new (1 + at)) is_err rose in
-            marking_stops x d (parts_of log x) (RoseIn on old new) (1 + at) (rest_of log x at) (rest_of log x (at + 1)) (table_of v) (table_of u) why.Fault (table_of w) (so.marking told tied) (rest_has log x at has few_here)
+            marking_stops x d (parts_of log x) (RoseIn on old new) (1 + at) (parts_past log x at) (parts_past log x (at + 1)) (table_of v) (table_of u) why.Fault (table_of w) (so.marking told tied) (rest_has log x at has few_here)
             (marker_fault (table_of u) (rebuilds_here u so.whole (1 + at)) failed.0
             (rose_then (on.faults old) (on.faults now) (on.faults new) so.goes.cause.later grew.0, rose_then (on.part_faults old (1 + at)) (on.part_faults now (1 + at)) (on.part_faults new (1 + at)) (so.goes.cause.parts_later (1 + at)) grew.1) failed.1 refl)
 
-        pub loop_fails : IsErr r → (Y : Type 0) → Y → Goes on Y v w old new
+        pub loop_fails : IsErr r → (Y : Type 0) → Y → EngineGoesOn on Y v w old new
         loop_fails is_err Y y = goes_like on (IsErr r) Y v w old new (λ err. y) (λ z. is_err) (goes_then on ⊥ (IsErr r) v u w old now new so.goes goes)
 
   -- over an equal engine and disk
@@ -237,5 +237,5 @@ module _ {D : Type 0} (on : Ghosts D) (tells : Type 0) (x : TxnId) (d : Decision
   -- all have it
   pub loop_ends : (v u : EngineView) (old now : D) (at n : ℕ) → UpTo v u old now at → CoordLawful n (coord_skeletons v.coord.front) → n ≡ length v.topics → length u.topics ≤ at → tells → IsTied v → MarksAll x d (parts_of (coord_skeletons v.coord.front) x) (table_of v) (table_of u)
   loop_ends v u old now at n so lawful same past told tied =
-      marking_ends x d (parts_of (coord_skeletons v.coord.front) x) (rest_of (coord_skeletons v.coord.front) x at) (table_of v) (table_of u) (so.marking told tied)
+      marking_ends x d (parts_of (coord_skeletons v.coord.front) x) (parts_past (coord_skeletons v.coord.front) x at) (table_of v) (table_of u) (so.marking told tied)
       (rest_ends (coord_skeletons v.coord.front) x n at lawful (omega (arith, same, so.count, past)))

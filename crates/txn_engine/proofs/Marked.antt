@@ -13,25 +13,25 @@ use Rattle.txn_base.specs.Disk.{Elsewhere, CountsFaults}
 use Rattle.txn_base.specs.Outside.{Rose}
 use Rattle.txn_base.specs.Records.{IsTxnId}
 use Rattle.txn_buffer.specs.View as topic
-use Rattle.txn_buffer.specs.View.{TopicView, batch_of, with_entries}
+use Rattle.txn_buffer.specs.View.{TopicView, topic_batch, with_entries}
 use Rattle.txn_ledger.specs.Ledger.{IsFile, StandsIn}
 use Rattle.txn_model.specs.Coord.{decision_of}
 use Rattle.txn_model.specs.Skeletons.{coord_skeletons, topic_skeletons}
-use Rattle.txn_model.specs.Table.{TableState, marker_batch, marked, fenced_by}
+use Rattle.txn_model.specs.Table.{TableState, marker_batch, marked, with_failed_batch}
 use Rattle.txn_model.specs.Topic.{marker_of}
 use Rattle.txn_model.specs.World.{part_skeletons}
-use Rattle.txn_records.specs.Topics.{marker_of as marker_entry}
+use Rattle.txn_records.specs.Topics.{marker_entry}
 use Rattle.txn_engine.specs.Kept.{IsTopic, IsEngine}
 use Rattle.txn_engine.specs.Table.{table_of}
-use Rattle.txn_engine.specs.Told.{RoseFor, Goes}
+use Rattle.txn_engine.specs.Told.{RoseFor, EngineGoesOn}
 use Rattle.txn_engine.specs.View.{EngineView, IsWhole, IsTied, IsBacked, with_topics, replaced}
 use Rattle.txn_engine.proofs.Decided.{on_ok, by_result}
 use Rattle.txn_engine.proofs.Going.{goes_still, topic_goes}
 use Rattle.txn_engine.proofs.Lists.{never_below, set_is, all_replaced, at_index}
 use Rattle.txn_buffer.proofs.Laws.{marker_records}
-use Rattle.txn_engine.proofs.Marks.{skeletons_at, stood_table, marked_table, marker_fenced, marker_allowed}
-use Rattle.txn_engine.proofs.Published.{added_topic, fenced_topic, engine_topics, put_back}
-use Rattle.txn_engine.proofs.Reading.{IsAt, at_place, is_topic_at}
+use Rattle.txn_engine.proofs.Marks.{skeletons_at, stood_table, marked_table, marker_failed, marker_allowed}
+use Rattle.txn_engine.proofs.Published.{added_topic, failed_topic, engine_topics, put_back}
+use Rattle.txn_engine.proofs.Reading.{IsTopicAt, at_place, is_topic_at}
 use Rattle.txn_engine.proofs.Whole.{whole_table, table_is}
 use Rattle.txn_engine.proofs.Worlds.{some_topic}
 
@@ -74,16 +74,16 @@ from_ok_err (Err e) P is h = h
 pub length_at : (v w : EngineView) (j : ℕ) → v ≡ w → j < length w.topics → j < length v.topics
 length_at v w j e h = subst (λ (z : EngineView). j < length z.topics) (sym e) h
 
-pub at_view : (v w : EngineView) → v ≡ w → (j : ℕ) (t : TopicView) → j < length v.topics → t ≡ get_or v.topics j t → IsAt v j t
+pub at_view : (v w : EngineView) → v ≡ w → (j : ℕ) (t : TopicView) → j < length v.topics → t ≡ get_or v.topics j t → IsTopicAt v j t
 at_view v w e j t below same = at_place v j t below same
 
-pub settled_at : (v : EngineView) → IsEngine v → IsWhole v → (j : ℕ) → j < length v.topics → (t : TopicView) → IsAt v j t → t.content.standing ≡ settled
+pub settled_at : (v : EngineView) → IsEngine v → IsWhole v → (j : ℕ) → j < length v.topics → (t : TopicView) → IsTopicAt v j t → t.content.standing ≡ settled
 settled_at v is whole j below t at = (is_topic_at v is j t below at).settled_is (subst (λ (k : TopicView). IsTrue k.whole) at (at_index (λ t. IsTrue t.whole) v.topics j (some_topic v) below whole.topics))
 
 -- ---- A topic that gets a marker.
 
 module _ (v : EngineView) (is : IsEngine v) (w : EngineView) (view : v ≡ w) (whole' : IsWhole w) (j : ℕ) (below : j < length v.topics) (x : TxnId) (d : Decision) (fits : IsTxnId x) (decided' : decision_of (coord_skeletons w.coord.front) x ≡ Some d)
-    (t t' : TopicView) (at : IsAt v j t) (r : Result (Unit {0}) Failed) where
+    (t t' : TopicView) (at : IsTopicAt v j t) (r : Result (Unit {0}) Failed) where
   whole : IsWhole v
   whole = subst IsWhole (sym view) whole'
 
@@ -109,23 +109,23 @@ module _ (v : EngineView) (is : IsEngine v) (w : EngineView) (view : v ≡ w) (w
   pub data Way (same : Type 0) : Type 0 where
     stands : is_some (marker_of (topic_skeletons t.front) x) ≡ true → IsOk r → t' ≡ t → same → Way same
     follows : marker_of (topic_skeletons t.front) x ≡ None → IsOk r → t' ≡ with_entries t es 0 → Way same
-    fails : marker_of (topic_skeletons t.front) x ≡ None → IsErr r → t' ≡ topic.fenced t es → Way same
+    fails : marker_of (topic_skeletons t.front) x ≡ None → IsErr r → t' ≡ topic.with_failed_entries t es → Way same
 
   pub way_of : (same : Type 0) → (is_some (marker_of (topic_skeletons t.front) x) ≡ true → IsOk r × (t' ≡ t) × same) → OnOk r (marker_of (topic_skeletons t.front) x ≡ None → t' ≡ with_entries t es 0)
-      → OnErr r ((marker_of (topic_skeletons t.front) x ≡ None) × (t' ≡ topic.fenced t es)) → Way same
+      → OnErr r ((marker_of (topic_skeletons t.front) x ≡ None) × (t' ≡ topic.with_failed_entries t es)) → Way same
   way_of same stood ok err = by_marker (marker_of (topic_skeletons t.front) x) refl
     where
       by_marker : (o : Option Decision) → marker_of (topic_skeletons t.front) x ≡ o → Way same
       by_marker (Some k) e = let s = stood (ap is_some e) in stands (ap is_some e) s.0 s.1 s.2
       by_marker None e =
           by_result r (Way same) (λ a is_ok. follows e (is_ok_of r a is_ok) (subst (λ (q : Result (Unit {0}) Failed). OnOk q (marker_of (topic_skeletons t.front) x ≡ None → t' ≡ with_entries t es 0)) is_ok ok e))
-          (λ y is_err. fails e (is_err_of r y is_err) (from_ok_err r ((marker_of (topic_skeletons t.front) x ≡ None) × (t' ≡ topic.fenced t es)) (is_err_of r y is_err) err).1)
+          (λ y is_err. fails e (is_err_of r y is_err) (from_ok_err r ((marker_of (topic_skeletons t.front) x ≡ None) × (t' ≡ topic.with_failed_entries t es)) (is_err_of r y is_err) err).1)
 
   module _ (same : Type 0) (way : Way same) where
     topic_by : Way same → IsTopic v.limits (1 + j) t'
     topic_by (stands m ok e s) = subst (IsTopic v.limits (1 + j)) (sym e) one
     topic_by (follows m ok e) = subst (IsTopic v.limits (1 + j)) (sym e) (added_topic v.limits (1 + j) t es 0 one whole_one)
-    topic_by (fails m err e) = subst (IsTopic v.limits (1 + j)) (sym e) (fenced_topic v.limits (1 + j) t es one)
+    topic_by (fails m err e) = subst (IsTopic v.limits (1 + j)) (sym e) (failed_topic v.limits (1 + j) t es one)
 
     engine_is : IsEngine u
     engine_is = engine_topics v is j t' (topic_by way)
@@ -155,39 +155,39 @@ module _ (v : EngineView) (is : IsEngine v) (w : EngineView) (view : v ≡ w) (w
       pub ok_marked : OnOk r (table_of u ≡ marked x d (1 + j) (table_of v))
       ok_marked = on_ok r (table_of u ≡ marked x d (1 + j) (table_of v)) (λ a e. ok_by way (is_ok_of r a e))
 
-      err_by : Way same → IsErr r → (is_none (marker_of (part_skeletons (table_of v).world (1 + j)) x) ≡ true) × (table_of u ≡ fenced_by (marker_batch (table_of v) x d (1 + j)) (1 + j) (table_of v))
+      err_by : Way same → IsErr r → (is_none (marker_of (part_skeletons (table_of v).world (1 + j)) x) ≡ true) × (table_of u ≡ with_failed_batch (marker_batch (table_of v) x d (1 + j)) (1 + j) (table_of v))
       err_by (stands m ok e s) err = absurd (ok_no_err r ok err)
       err_by (follows m ok e) err = absurd (ok_no_err r ok err)
       err_by (fails m err' e) err =
           let here : table_of v ≡ whole_table v = table_is v is whole tied in (
             ap (λ (s : TableState). is_none (marker_of (part_skeletons s.world (1 + j)) x)) here ∙ ap (λ k. is_none (marker_of k x)) (skeletons_at v is j below) ∙ ap is_none (at_marker None m),
-            ap (λ (k : TopicView). table_of (with_topics v (replaced v.topics j k))) (e ∙ ap (λ (k : TopicView). topic.fenced k es) (sym at))
-                ∙ marker_fenced v is j below x d whole tied (at_marker None m) fits ∙ ap (λ (s : TableState). fenced_by (marker_batch s x d (1 + j)) (1 + j) s) (sym here),
+            ap (λ (k : TopicView). table_of (with_topics v (replaced v.topics j k))) (e ∙ ap (λ (k : TopicView). topic.with_failed_entries k es) (sym at))
+                ∙ marker_failed v is j below x d whole tied (at_marker None m) fits ∙ ap (λ (s : TableState). with_failed_batch (marker_batch s x d (1 + j)) (1 + j) s) (sym here),
           )
 
-      pub err_fenced : OnErr r ((is_none (marker_of (part_skeletons (table_of v).world (1 + j)) x) ≡ true) × (table_of u ≡ fenced_by (marker_batch (table_of v) x d (1 + j)) (1 + j) (table_of v)))
-      err_fenced = on_err r ((is_none (marker_of (part_skeletons (table_of v).world (1 + j)) x) ≡ true) × (table_of u ≡ fenced_by (marker_batch (table_of v) x d (1 + j)) (1 + j) (table_of v))) (err_by way)
+      pub err_failed : OnErr r ((is_none (marker_of (part_skeletons (table_of v).world (1 + j)) x) ≡ true) × (table_of u ≡ with_failed_batch (marker_batch (table_of v) x d (1 + j)) (1 + j) (table_of v)))
+      err_failed = on_err r ((is_none (marker_of (part_skeletons (table_of v).world (1 + j)) x) ≡ true) × (table_of u ≡ with_failed_batch (marker_batch (table_of v) x d (1 + j)) (1 + j) (table_of v))) (err_by way)
 
     -- ---- How it goes on.
 
     module _ {D : Type 0} (on : Ghosts D) (old new : D) (backed : IsBacked (on.image old) v) (still : same → new ≡ old)
-        (tie : topic.IsFrontOf t → topic.IsFrontOf t') (here : Backed StandsIn (on.image new) t'.content) (since : After on (Appends IsFile StandsIn t.content (batch_of es)) old new) (others : Elsewhere t.content.key (on.seen old) (on.seen new))
+        (tie : topic.IsFrontOf t → topic.IsFrontOf t') (here : Backed StandsIn (on.image new) t'.content) (since : After on (Appends IsFile StandsIn t.content (topic_batch es)) old new) (others : Elsewhere t.content.key (on.seen old) (on.seen new))
         (cause : FaultsIn on t.content.key.part old new (IsErr r)) where
-      follows_goes : marker_of (topic_skeletons t.front) x ≡ None → Goes on (IsErr r) v u old new
+      follows_goes : marker_of (topic_skeletons t.front) x ≡ None → EngineGoesOn on (IsErr r) v u old new
       follows_goes m =
           topic_goes on v is whole old new backed j below (IsErr r) (IsErr r) es t' u
           (ap (λ (k : TopicView). k.content.key) at ∙ one.key) (marker_records x d fits) (λ tied. marker_allowed v is j below x d whole tied decided (at_marker None m)) refl refl refl (whole_by way)
-          (λ was. tie (subst topic.IsFrontOf at was)) here (subst (λ (k : TopicView). After on (Appends IsFile StandsIn k.content (batch_of es)) old new) (sym at) since) (subst (λ (k : TopicView). Elsewhere k.content.key (on.seen old) (on.seen new)) (sym at) others)
+          (λ was. tie (subst topic.IsFrontOf at was)) here (subst (λ (k : TopicView). After on (Appends IsFile StandsIn k.content (topic_batch es)) old new) (sym at) since) (subst (λ (k : TopicView). Elsewhere k.content.key (on.seen old) (on.seen new)) (sym at) others)
           (subst (λ (k : TopicView). FaultsIn on k.content.key.part old new (IsErr r)) (sym at) cause) (λ h. h)
 
-      goes_by : Way same → Goes on (IsErr r) v u old new
+      goes_by : Way same → EngineGoesOn on (IsErr r) v u old new
       goes_by (stands m ok e s) =
-          subst (λ (d : D). Goes on (IsErr r) v u old d) (sym (still s))
+          subst (λ (d : D). EngineGoesOn on (IsErr r) v u old d) (sym (still s))
           (goes_still on (IsErr r) (ok_no_err r ok) v u old whole backed refl refl (ap (λ (z : EngineView). z.topics) (put_back v j t t' at e)))
       goes_by (follows m ok e) = follows_goes m
       goes_by (fails m err e) = follows_goes m
 
-      pub marked_goes : Goes on (IsErr r) v u old new
+      pub marked_goes : EngineGoesOn on (IsErr r) v u old new
       marked_goes = goes_by way
 
     -- ---- The clauses, over an equal view, and the topics after a write by index.
@@ -206,18 +206,18 @@ module _ (v : EngineView) (is : IsEngine v) (w : EngineView) (view : v ≡ w) (w
         subst (λ (z : EngineView). OnOk r (table_of u' ≡ marked x d (1 + j) (table_of z))) view
         (subst (λ (z : EngineView). OnOk r (table_of z ≡ marked x d (1 + j) (table_of v))) put (ok_marked (subst IsTied (sym view) tied) tie))
 
-    pub err_clause : IsTied w → (topic.IsFrontOf t → topic.IsFrontOf t') → OnErr r ((is_none (marker_of (part_skeletons (table_of w).world (1 + j)) x) ≡ true) × (table_of u' ≡ fenced_by (marker_batch (table_of w) x d (1 + j)) (1 + j) (table_of w)))
+    pub err_clause : IsTied w → (topic.IsFrontOf t → topic.IsFrontOf t') → OnErr r ((is_none (marker_of (part_skeletons (table_of w).world (1 + j)) x) ≡ true) × (table_of u' ≡ with_failed_batch (marker_batch (table_of w) x d (1 + j)) (1 + j) (table_of w)))
     err_clause tied tie =
-        subst (λ (z : EngineView). OnErr r ((is_none (marker_of (part_skeletons (table_of z).world (1 + j)) x) ≡ true) × (table_of u' ≡ fenced_by (marker_batch (table_of z) x d (1 + j)) (1 + j) (table_of z)))) view
-        (subst (λ (z : EngineView). OnErr r ((is_none (marker_of (part_skeletons (table_of v).world (1 + j)) x) ≡ true) × (table_of z ≡ fenced_by (marker_batch (table_of v) x d (1 + j)) (1 + j) (table_of v)))) put (err_fenced (subst IsTied (sym view) tied) tie))
+        subst (λ (z : EngineView). OnErr r ((is_none (marker_of (part_skeletons (table_of z).world (1 + j)) x) ≡ true) × (table_of u' ≡ with_failed_batch (marker_batch (table_of z) x d (1 + j)) (1 + j) (table_of z)))) view
+        (subst (λ (z : EngineView). OnErr r ((is_none (marker_of (part_skeletons (table_of v).world (1 + j)) x) ≡ true) × (table_of z ≡ with_failed_batch (marker_batch (table_of v) x d (1 + j)) (1 + j) (table_of v)))) put (err_failed (subst IsTied (sym view) tied) tie))
 
     pub rose_clause : (f g : ℕ) (fs gs : ℕ → ℕ) → CountsFaults t.content.key.part f g fs gs (IsErr r) → OnErr r (RoseFor f g fs gs (1 + j))
     rose_clause f g fs gs cause = on_err r (RoseFor f g fs gs (1 + j)) (λ err. subst (λ (k : FileId). Rose f g × Rose (fs k.part) (gs k.part)) one.key (cause.failed err))
 
     pub goes_clause : {D : Type 0} (on : Ghosts D) (old new : D) → IsBacked (on.image old) w → (same → new ≡ old)
-        → (topic.IsFrontOf t → topic.IsFrontOf t') → Backed StandsIn (on.image new) t'.content → After on (Appends IsFile StandsIn t.content (batch_of es)) old new → Elsewhere t.content.key (on.seen old) (on.seen new)
-        → FaultsIn on t.content.key.part old new (IsErr r) → Goes on (IsErr r) w u' old new
+        → (topic.IsFrontOf t → topic.IsFrontOf t') → Backed StandsIn (on.image new) t'.content → After on (Appends IsFile StandsIn t.content (topic_batch es)) old new → Elsewhere t.content.key (on.seen old) (on.seen new)
+        → FaultsIn on t.content.key.part old new (IsErr r) → EngineGoesOn on (IsErr r) w u' old new
     goes_clause on old new backed still tie here since others cause =
-        subst (λ (z : EngineView). Goes on (IsErr r) z u' old new) view
-        (subst (λ (z : EngineView). Goes on (IsErr r) v z old new) put
+        subst (λ (z : EngineView). EngineGoesOn on (IsErr r) z u' old new) view
+        (subst (λ (z : EngineView). EngineGoesOn on (IsErr r) v z old new) put
         (marked_goes on old new (subst (IsBacked (on.image old)) (sym view) backed) still tie here since others cause))

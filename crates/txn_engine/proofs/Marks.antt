@@ -16,22 +16,22 @@ use Rattle.txn_base.specs.declared.txn.Decision.{Decision}
 use Rattle.txn_base.specs.declared.txn.Decision.TheVariants.{Commit, Abort}
 use Rattle.txn_buffer.proofs.Laws.{marker_records}
 use Rattle.txn_buffer.specs.View as topic
-use Rattle.txn_buffer.specs.View.{TopicView, batch_of, with_entries}
+use Rattle.txn_buffer.specs.View.{TopicView, topic_batch, with_entries}
 use Rattle.txn_model.specs.Allowed.{IsAllowed}
 use Rattle.txn_model.specs.Coord.{decision_of}
 use Rattle.txn_model.specs.Names.{name_of}
 use Rattle.txn_model.specs.Skeletons.{coord_skeletons, topic_skeletons}
-use Rattle.txn_model.specs.Table.{Batch, nothing, in_topic, topic_marker, marker_batch, given_after, marked, fenced_by, settled as with_batch}
+use Rattle.txn_model.specs.Table.{EntryBatch, nothing, in_topic, topic_marker, marker_batch, given_after, marked, with_failed_batch, with_batch}
 use Rattle.txn_model.specs.Topic.{marker_of}
 use Rattle.txn_model.specs.Words.{nowhere}
 use Rattle.txn_model.specs.World.{Lawful, part_skeletons}
 use Rattle.txn_model.proofs.Laws.Grants.{topic_part, marker_granted}
-use Rattle.txn_records.specs.Topics.{marker_of as marker_entry}
+use Rattle.txn_records.specs.Topics.{marker_entry}
 use Rattle.txn_engine.specs.Kept.{IsEngine}
 use Rattle.txn_engine.specs.Table.{table_of, world_of}
 use Rattle.txn_engine.specs.View.{EngineView, IsWhole, IsTied, with_topics, replaced}
 use Rattle.txn_engine.proofs.Bodies.{entries_back}
-use Rattle.txn_engine.proofs.Changed.{given_same, topic_added, topic_fenced}
+use Rattle.txn_engine.proofs.Changed.{given_same, topic_added, topic_failed}
 use Rattle.txn_engine.proofs.Lists.{front_at}
 use Rattle.txn_engine.proofs.TopicNames.{not_sub}
 use Rattle.txn_engine.proofs.Whole.{whole_world, whole_table, world_is}
@@ -97,7 +97,7 @@ module _ (v : EngineView) (is : IsEngine v) (j : ℕ) (below : j < length v.topi
     given_is Commit = refl
     given_is Abort = given_same (1 + j)
 
-    marked_by : (b : Batch) → marker_batch (whole_table v) x d (1 + j) ≡ b → with_batch b (whole_table v) ≡ marked x d (1 + j) (whole_table v)
+    marked_by : (b : EntryBatch) → marker_batch (whole_table v) x d (1 + j) ≡ b → with_batch b (whole_table v) ≡ marked x d (1 + j) (whole_table v)
     marked_by b e = λ i. record (with_batch (sym e i) (whole_table v)) { given = sym (given_is d) i }
 
     -- it stands there already
@@ -110,10 +110,10 @@ module _ (v : EngineView) (is : IsEngine v) (j : ℕ) (below : j < length v.topi
       marked_table t front = topic_added v is whole tied j (some_topic v) below (marker_entry x d ∷ []) t front ∙ marked_by (in_topic (1 + j) (marker_entry x d ∷ [])) (batch_is none)
 
       -- its append failed
-      pub marker_fenced : IsTxnId x → table_of (with_topics v (replaced v.topics j (topic.fenced at (marker_entry x d ∷ [])))) ≡ fenced_by (marker_batch (whole_table v) x d (1 + j)) (1 + j) (whole_table v)
-      marker_fenced fits =
-          topic_fenced v is whole tied j (some_topic v) below (marker_entry x d ∷ []) (entries_back (marker_entry x d ∷ []) (marker_records x d fits))
-          ∙ ap (λ (b : Batch). fenced_by b (1 + j) (whole_table v)) (sym (batch_is none))
+      pub marker_failed : IsTxnId x → table_of (with_topics v (replaced v.topics j (topic.with_failed_entries at (marker_entry x d ∷ [])))) ≡ with_failed_batch (marker_batch (whole_table v) x d (1 + j)) (1 + j) (whole_table v)
+      marker_failed fits =
+          topic_failed v is whole tied j (some_topic v) below (marker_entry x d ∷ []) (entries_back (marker_entry x d ∷ []) (marker_records x d fits))
+          ∙ ap (λ (b : EntryBatch). with_failed_batch b (1 + j) (whole_table v)) (sym (batch_is none))
 
     -- ---- It is allowed over a lawful world.
 
@@ -121,5 +121,5 @@ module _ (v : EngineView) (is : IsEngine v) (j : ℕ) (below : j < length v.topi
     marker_allowed whole tied decided none lawful =
         let same : world_of v ≡ whole_world v = world_is v is whole tied in
         subst (IsAllowed (in_topic (1 + j) (marker_entry x d ∷ []))) (sym same)
-        (subst (λ (b : Batch). IsAllowed b (whole_world v)) (batch_is none)
+        (subst (λ (b : EntryBatch). IsAllowed b (whole_world v)) (batch_is none)
         (marker_granted (whole_table v) x d (1 + j) (subst Lawful same lawful) (omega arith) (omega (arith, below, is.count)) decided).allowed)

@@ -155,4 +155,4 @@ module _ (names : List (List ℕ)) (limits : Limits) (c : CoordView) (ts : List 
         table_is opened_engine is whole tied ∙ here (sym same) (low ∙ sym front)
       where
         here : whole_world opened_engine ≡ w → c.opened_low ≡ low_of w.coord → whole_table opened_engine ≡ table_over w
-        here world low_is i = record { world = world i; flights = no_flights; fenced = nowhere; latest = 0; opened_low = low_is i; given = λ s. nowhere }
+        here world low_is i = record { world = world i; flights = no_flights; unrebuilt = nowhere; latest = 0; opened_low = low_is i; given = λ s. nowhere }

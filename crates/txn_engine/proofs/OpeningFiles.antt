@@ -33,8 +33,8 @@ keeps_all key d c is file = ⊎_elim
     (λ apart. subst (KeepsList (d file)) (sym (is.others file apart)) (λ batches stands. stands))
     (same_or_not file key)
 
-pub same_key : (c : Files) (key file : FileId) (batches : List Batch) → key ≡ file → Stands (c key) batches → Stands (c file) batches
-same_key c key file batches e h = subst (λ (f : FileId). Stands (c f) batches) e h
+pub same_file_stands : (c : Files) (key file : FileId) (batches : List Batch) → key ≡ file → Stands (c key) batches → Stands (c file) batches
+same_file_stands c key file batches e h = subst (λ (f : FileId). Stands (c f) batches) e h
 
 pub others_then : (key file : FileId) (a b c : Files) → key ≡ file → Elsewhere file a b → ((other : FileId) → (IsFile key other → ⊥) → c other ≡ b other) → Elsewhere file a c
 others_then key file a b c e one two other ne = two other (λ same. ne (same ∙ e)) ∙ one other ne
@@ -71,8 +71,8 @@ module _ {D : Type 0} (on : Ghosts D) where
       further : (d e c : Files) → Changes key KeepsList d e → on.image mid e → Settles IsFile StandsIn content e c → Changes key KeepsList d c
       further d e c one at two = record {
         here = λ batches stands.
-            let before : Stands (e key) content.batches = same_key e content.key key content.batches key_is (stands_here (StandsIn content.key e) content.batches content.standing settled_is (backed.each e at)) in
-            let after : Stands (c key) content.batches = same_key c content.key key content.batches key_is (stands_here (StandsIn content.key c) content.batches content.standing settled_is two.here) in
+            let before : Stands (e key) content.batches = same_file_stands e content.key key content.batches key_is (stands_here (StandsIn content.key e) content.batches content.standing settled_is (backed.each e at)) in
+            let after : Stands (c key) content.batches = same_file_stands c content.key key content.batches key_is (stands_here (StandsIn content.key c) content.batches content.standing settled_is two.here) in
             subst (Stands (c key)) (stands_one (e key) content.batches batches before (one.here batches stands)) after;
         others = λ other ne. two.others other (λ same. ne (same ∙ key_is)) ∙ one.others other ne;
       }

@@ -12,32 +12,32 @@ use Rattle.txn_model.specs.Coord.{CoordLawful}
 use Rattle.txn_model.specs.Deadlines.{low_of}
 use Rattle.txn_model.specs.Skeletons.{coord_skeletons}
 use Rattle.txn_model.specs.Sound.{ledger_file}
-use Rattle.txn_coordinator.specs.Mending.{IsSettledFrom, IsBadRecord, AreReplayed, Mends}
-use Rattle.txn_coordinator.specs.View.{CoordView, length_of}
+use Rattle.txn_coordinator.specs.Mending.{IsSettledFrom, IsFirstBadRecord, AreReplayed, Mends}
+use Rattle.txn_coordinator.specs.View.{CoordView, coord_total}
 use Rattle.txn_engine.specs.Kept.{IsCoordinator}
 use Rattle.txn_engine.specs.Opening.{IsDamagedLog, IsCoordinatorOf}
 use Rattle.txn_engine.proofs.Whole.{coord_front}
 
 -- The coordinator of n named parts is under these limits, nothing is in flight, and its front is lawful and within its log:
 -- where it is whole, all of it, and the low watermark is that of the opening.
-pub record IsOpening (limits : Limits) (n : ℕ) (v : CoordView) : Type 0 where
+pub record IsOpeningLog (limits : Limits) (n : ℕ) (v : CoordView) : Type 0 where
   pub key : v.content.key ≡ ledger_file 0
   pub limits_are : v.limits ≡ limits
   pub settled_is : v.content.standing ≡ settled
   pub lawful : CoordLawful n (coord_skeletons v.front)
-  pub within : length v.front ≤ length_of v
-  pub all : IsTrue v.whole → length v.front ≡ length_of v
+  pub within : length v.front ≤ coord_total v
+  pub all : IsTrue v.whole → length v.front ≡ coord_total v
   pub was_whole : v.was_whole ≡ v.whole
   pub low : IsTrue v.whole → v.opened_low ≡ low_of v.front
 
 -- What it has replayed is what its ledger holds, and these bytes stand for that.
-pub record IsTold (n : ℕ) (bytes : List ℕ) (v : CoordView) : Type 0 where
+pub record IsToldLog (n : ℕ) (bytes : List ℕ) (v : CoordView) : Type 0 where
   pub replayed : AreReplayed n v.content v.front
   pub stands : Stands bytes v.content.batches
 
 -- The records that are not in the front, and a step that may find that there are none.
-abbrev pub steps_left : CoordView → ℕ
-steps_left v = (length_of v - length v.front) + (if v.whole then 0 else 1)
+abbrev pub log_steps_left : CoordView → ℕ
+log_steps_left v = (coord_total v - length v.front) + (if v.whole then 0 else 1)
 
 -- ---- A step.
 
@@ -47,14 +47,14 @@ settled_same k e = λ i. record { key = k.key; batches = k.batches; standing = (
 kept_same : (k : LedgerContent) → k.standing ≡ settled → kept k ≡ k
 kept_same k e = ap (λ (s : Standing). record { key = k.key; batches = with_flight k.batches s; standing = settled }) e ∙ settled_same k e
 
-pub same_content : (v w : LedgerContent) → v.standing ≡ settled → IsSettledFrom v w → w ≡ v
-same_content v w e from = ⊎_elim (λ kept. kept ∙ kept_same v e) (λ dropped. dropped ∙ settled_same v e) from
+pub same_log_content : (v w : LedgerContent) → v.standing ≡ settled → IsSettledFrom v w → w ≡ v
+same_log_content v w e from = ⊎_elim (λ kept. kept ∙ kept_same v e) (λ dropped. dropped ∙ settled_same v e) from
 
-module _ (limits : Limits) (n : ℕ) (v w : CoordView) (is : IsOpening limits n v) (going : v.whole ≡ false) (step : Mends v w) (lawful : CoordLawful n (coord_skeletons w.front)) where
+module _ (limits : Limits) (n : ℕ) (v w : CoordView) (is : IsOpeningLog limits n v) (going : v.whole ≡ false) (step : Mends v w) (lawful : CoordLawful n (coord_skeletons w.front)) where
   same : w.content ≡ v.content
-  same = same_content v.content w.content is.settled_is step.settles
+  same = same_log_content v.content w.content is.settled_is step.settles
 
-  total : length_of w ≡ length_of v
+  total : coord_total w ≡ coord_total v
   total = ap (λ (k : LedgerContent). length (records k.batches)) same
 
   was : v.was_whole ≡ false
@@ -69,7 +69,7 @@ module _ (limits : Limits) (n : ℕ) (v w : CoordView) (is : IsOpening limits n 
   whole_by true c d e h = cc
   whole_by false c d e h = h
 
-  pub opening_step : IsOpening limits n w
+  pub opening_step : IsOpeningLog limits n w
   opening_step = record {
     key = ap (λ (k : LedgerContent). k.key) same ∙ is.key;
     limits_are = step.limits ∙ is.limits_are;
@@ -81,7 +81,7 @@ module _ (limits : Limits) (n : ℕ) (v w : CoordView) (is : IsOpening limits n 
     low = λ whole. opened_by v.was_whole w.whole w.opened_low v.opened_low (low_of w.front) was whole step.opened;
   }
 
-  pub told_step : (bytes : List ℕ) → IsTold n bytes v → AreReplayed n w.content w.front → IsTold n bytes w
+  pub told_step : (bytes : List ℕ) → IsToldLog n bytes v → AreReplayed n w.content w.front → IsToldLog n bytes w
   told_step bytes before replayed = record { replayed = replayed; stands = subst (λ (k : LedgerContent). Stands bytes k.batches) (sym same) before.stands }
 
 -- a step leaves fewer
@@ -95,21 +95,21 @@ fewer_by false t f f' s is grows within some = ⊎_elim
     (λ past. absurd (not_whole t f' is (omega (arith, past, grows))))
     (cases_lt (f + s) t)
 
-pub fewer : (limits : Limits) (n : ℕ) (v w : CoordView) → IsOpening limits n v → v.whole ≡ false → Mends v w → 1 ≤ limits.step → steps_left w < steps_left v
+pub fewer : (limits : Limits) (n : ℕ) (v w : CoordView) → IsOpeningLog limits n v → v.whole ≡ false → Mends v w → 1 ≤ limits.step → log_steps_left w < log_steps_left v
 fewer limits n v w is going step some =
-    let total : length_of w ≡ length_of v = ap (λ (k : LedgerContent). length (records k.batches)) (same_content v.content w.content is.settled_is step.settles) in
+    let total : coord_total w ≡ coord_total v = ap (λ (k : LedgerContent). length (records k.batches)) (same_log_content v.content w.content is.settled_is step.settles) in
     let bound : 1 ≤ v.limits.step = subst (λ (l : Limits). 1 ≤ l.step) (sym is.limits_are) some in
-    let less : (length_of w - length w.front) + (if w.whole then 0 else 1) < (length_of w - length v.front) + 1 =
-    fewer_by w.whole (length_of w) (length v.front) (length w.front) v.limits.step step.whole step.grows (omega (arith, total, is.within)) bound in
+    let less : (coord_total w - length w.front) + (if w.whole then 0 else 1) < (coord_total w - length v.front) + 1 =
+    fewer_by w.whole (coord_total w) (length v.front) (length w.front) v.limits.step step.whole step.grows (omega (arith, total, is.within)) bound in
     rw going (omega (arith, less, total))
 
 -- ---- All of it.
 
-pub opened_log : (limits : Limits) (n : ℕ) (v : CoordView) → IsOpening limits n v → IsCoordinator limits n v
+pub opened_log : (limits : Limits) (n : ℕ) (v : CoordView) → IsOpeningLog limits n v → IsCoordinator limits n v
 opened_log limits n v is = record { key = is.key; limits_are = is.limits_are; lawful = is.lawful; settled_is = λ whole. is.settled_is; all = is.all }
 
-pub log_of : (limits : Limits) (n : ℕ) (v : CoordView) (bytes : List ℕ) → IsOpening limits n v → IsTrue v.whole → IsTold n bytes v → IsCoordinatorOf n v bytes
-log_of limits n v bytes is whole told = record {
+pub opening_is_log : (limits : Limits) (n : ℕ) (v : CoordView) (bytes : List ℕ) → IsOpeningLog limits n v → IsTrue v.whole → IsToldLog n bytes v → IsCoordinatorOf n v bytes
+opening_is_log limits n v bytes is whole told = record {
   tied = told.replayed.entries;
   stands = told.stands;
   grammar = subst (All (λ r. IsCoordRecord r (coord_entry_of r))) (take_all (length v.front) (records v.content.batches) (omega (arith, is.all whole))) told.replayed.grammar;
@@ -118,10 +118,10 @@ log_of limits n v bytes is whole told = record {
 
 -- ---- Damage.
 
-module _ (n : ℕ) (v w : CoordView) (bytes : List ℕ) (same : w.content ≡ v.content) (told : IsTold n bytes v) where
-  pub damaged_log : (place : ℕ) → IsBadRecord n w.content place → IsDamagedLog n bytes place
+module _ (n : ℕ) (v w : CoordView) (bytes : List ℕ) (same : w.content ≡ v.content) (told : IsToldLog n bytes v) where
+  pub damaged_log : (place : ℕ) → IsFirstBadRecord n w.content place → IsDamagedLog n bytes place
   damaged_log place found =
-      let bad : IsBadRecord n v.content place = subst (λ (k : LedgerContent). IsBadRecord n k place) same found in
+      let bad : IsFirstBadRecord n v.content place = subst (λ (k : LedgerContent). IsFirstBadRecord n k place) same found in
       inr (v.content.batches, told.stands, bad.within, record { bad = bad.bad; lawful = bad.before; grammar = bad.grammar })
 
 pub not_fault : (place : ℕ) → mend.Damaged place ≡ mend.Fault → ⊥

@@ -46,14 +46,14 @@ part_within n c x p lawful has = within_behind n [] c x p lawful has
 -- ---- The parts from an index on.
 
 -- In the log c, the parts of x whose number is more than n.
-abbrev pub rest_of : List CoreEntry → TxnId → ℕ → List ℕ
-rest_of c x n = filter (in_parts c x) (numbers_from (1 + n) (62 - n))
+abbrev pub parts_past : List CoreEntry → TxnId → ℕ → List ℕ
+parts_past c x n = filter (in_parts c x) (numbers_from (1 + n) (62 - n))
 
 module _ (c : List CoreEntry) (x : TxnId) where
-  pub all_parts : rest_of c x 0 ≡ parts_of c x
+  pub all_parts : parts_past c x 0 ≡ parts_of c x
   all_parts = refl
 
-  step_by : (n : ℕ) (b : Bool) → in_parts c x (1 + n) ≡ b → n < 62 → rest_of c x n ≡ cond b ((1 + n) ∷ rest_of c x (n + 1)) (rest_of c x (n + 1))
+  step_by : (n : ℕ) (b : Bool) → in_parts c x (1 + n) ≡ b → n < 62 → parts_past c x n ≡ cond b ((1 + n) ∷ parts_past c x (n + 1)) (parts_past c x (n + 1))
   step_by n b e few =
       ap (λ (m : ℕ). filter (in_parts c x) (numbers_from (1 + n) m)) (left n few)
       ∙ ap (λ (t : Bool). cond t ((1 + n) ∷ filter (in_parts c x) (numbers_from (suc (1 + n)) (62 - (n + 1)))) (filter (in_parts c x) (numbers_from (suc (1 + n)) (62 - (n + 1))))) e
@@ -65,10 +65,10 @@ module _ (c : List CoreEntry) (x : TxnId) where
       next : (n : ℕ) → suc (1 + n) ≡ 1 + (n + 1)
       next n = omega arith
 
-  pub rest_has : (n : ℕ) → in_parts c x (1 + n) ≡ true → n < 62 → rest_of c x n ≡ (1 + n) ∷ rest_of c x (n + 1)
+  pub rest_has : (n : ℕ) → in_parts c x (1 + n) ≡ true → n < 62 → parts_past c x n ≡ (1 + n) ∷ parts_past c x (n + 1)
   rest_has n e few = step_by n true e few
 
-  pub rest_without : (n : ℕ) → in_parts c x (1 + n) ≡ false → n < 62 → rest_of c x n ≡ rest_of c x (n + 1)
+  pub rest_without : (n : ℕ) → in_parts c x (1 + n) ≡ false → n < 62 → parts_past c x n ≡ parts_past c x (n + 1)
   rest_without n e few = step_by n false e few
 
   none_above : (f : ℕ → Bool) (k m : ℕ) → ((q : ℕ) → k ≤ q → f q ≡ false) → filter f (numbers_from k m) ≡ []
@@ -81,7 +81,7 @@ module _ (c : List CoreEntry) (x : TxnId) where
       later : (k q : ℕ) → suc k ≤ q → k ≤ q
       later k q h = omega (arith, h)
 
-  pub rest_ends : (n at : ℕ) → CoordLawful n c → n ≤ at → rest_of c x at ≡ []
+  pub rest_ends : (n at : ℕ) → CoordLawful n c → n ≤ at → parts_past c x at ≡ []
   rest_ends n at lawful past = none_above (in_parts c x) (1 + at) (62 - at) (λ q above. by_test q above (in_parts c x q) refl)
     where
       never : (q n at : ℕ) → 1 + at ≤ q → n ≤ at → q ≤ n → ⊥

@@ -25,7 +25,7 @@ use Rattle.txn_base.specs.Names.{is_sub}
 use Rattle.txn_base.specs.Records.{topic_record}
 use Rattle.txn_buffer.specs.Adding.{messages_of, IsUnmarked}
 use Rattle.txn_buffer.specs.View as buffer
-use Rattle.txn_buffer.specs.View.{TopicView, batch_of, total_of, with_entries}
+use Rattle.txn_buffer.specs.View.{TopicView, topic_batch, topic_total, with_entries}
 use Rattle.txn_buffer.specs.declared.error.TopicError.{TopicError}
 use Rattle.txn_buffer.specs.declared.error.TopicError.TheVariants as topic_error
 use Rattle.txn_model.specs.Answers.{Answers, AppendFails}
@@ -36,7 +36,7 @@ use Rattle.txn_model.specs.LateRows.{late_refusal}
 use Rattle.txn_model.specs.Names.{part_of, name_of}
 use Rattle.txn_model.specs.Skeletons.{coord_skeletons, topic_skeletons}
 use Rattle.txn_model.specs.Successes.{success_of}
-use Rattle.txn_model.specs.Table.{Batch, in_topic, settled as with_batch, fenced_by}
+use Rattle.txn_model.specs.Table.{EntryBatch, in_topic, with_batch, with_failed_batch}
 use Rattle.txn_model.specs.Topic.{marker_of}
 use Rattle.txn_wire.specs.Short.{is_long}
 use Rattle.txn_engine.specs.Kept.{IsTopic, IsEngine}
@@ -47,9 +47,9 @@ use Rattle.txn_engine.specs.View.{EngineView, IsWhole, IsTied, with_topics, repl
 use Rattle.txn_engine.specs.declared.publish.WhyNot.{WhyNot}
 use Rattle.txn_engine.specs.declared.publish.WhyNot.TheVariants as why_not
 use Rattle.txn_engine.proofs.Begun.{short_told, row_told, late_told, memory_told}
-use Rattle.txn_engine.proofs.Changed.{topic_added, topic_fenced}
+use Rattle.txn_engine.proofs.Changed.{topic_added, topic_failed}
 use Rattle.txn_engine.proofs.Lists.{set_is, topics_replaced, length_replaced, all_replaced, at_index}
-use Rattle.txn_engine.proofs.Reading.{IsAt, is_topic_at, rose_at}
+use Rattle.txn_engine.proofs.Reading.{IsTopicAt, is_topic_at, rose_at}
 use Rattle.txn_engine.proofs.Rows.{granted_here}
 use Rattle.txn_engine.proofs.TopicNames.{not_sub, part_name}
 use Rattle.txn_engine.proofs.TopicRows.{Knows, knows, number_is, list_is, unknown_publish, foreign_publish, big_publish, early_publish, late_publish}
@@ -58,10 +58,10 @@ use Rattle.txn_engine.proofs.Worlds.{some_topic}
 
 -- ---- The topic after a publish.
 
-more_records : (bs : List FrameBatch) (es : List TopicEntry) → length (records (bs ++ batch_of es ∷ [])) ≡ length (records bs) + length es
+more_records : (bs : List FrameBatch) (es : List TopicEntry) → length (records (bs ++ topic_batch es ∷ [])) ≡ length (records bs) + length es
 more_records bs es =
-    ap length (flat_map-append (λ (b : FrameBatch). b) bs (batch_of es ∷ [])) ∙ length-append (records bs) (records (batch_of es ∷ []))
-    ∙ ap (λ (n : ℕ). length (records bs) + n) (one (batch_of es) ∙ length-map es (topic_record 1))
+    ap length (flat_map-append (λ (b : FrameBatch). b) bs (topic_batch es ∷ [])) ∙ length-append (records bs) (records (topic_batch es ∷ []))
+    ∙ ap (λ (n : ℕ). length (records bs) + n) (one (topic_batch es) ∙ length-map es (topic_record 1))
   where
     one : (b : FrameBatch) → length (records (b ∷ [])) ≡ length b
     one b = length-append b [] ∙ none (length b)
@@ -78,8 +78,8 @@ added_topic limits p t es ends is whole = record {
   all = λ w. length-append t.front es ∙ ap (λ (n : ℕ). n + length es) (is.all whole) ∙ sym (more_records t.content.batches es);
 }
 
-pub fenced_topic : (limits : Limits) (p : ℕ) (t : TopicView) (es : List TopicEntry) → IsTopic limits p t → IsTopic limits p (buffer.fenced t es)
-fenced_topic limits p t es is = record {
+pub failed_topic : (limits : Limits) (p : ℕ) (t : TopicView) (es : List TopicEntry) → IsTopic limits p t → IsTopic limits p (buffer.with_failed_entries t es)
+failed_topic limits p t es is = record {
   key = is.key;
   part_is = is.part_is;
   limits_are = is.limits_are;
@@ -106,14 +106,14 @@ engine_topics v is j t one = record {
 -- The topic after this answer to a publish of these entries.
 pub record IsAfter (t t' : TopicView) (es : List TopicEntry) (r : Result ℕ TopicError) : Type 0 where
   pub ok : OnOk r (t' ≡ with_entries t es t.reserved)
-  pub fault : r ≡ Err topic_error.Fault → t' ≡ buffer.fenced t es
+  pub fault : r ≡ Err topic_error.Fault → t' ≡ buffer.with_failed_entries t es
   pub full : (count : ℕ) → r ≡ Err (topic_error.Full count) → t' ≡ t
   pub memory : r ≡ Err topic_error.NoMemory → t' ≡ t
   pub undamaged : (place : ℕ) → r ≡ Err (topic_error.Damaged place) → ⊥
 
 pub after_topic : (limits : Limits) (p : ℕ) (t t' : TopicView) (es : List TopicEntry) (r : Result ℕ TopicError) → IsAfter t t' es r → IsTopic limits p t → IsTrue t.whole → IsTopic limits p t'
 after_topic limits p t t' es (Ok place) after is whole = subst (IsTopic limits p) (sym after.ok) (added_topic limits p t es t.reserved is whole)
-after_topic limits p t t' es (Err topic_error.Fault) after is whole = subst (IsTopic limits p) (sym (after.fault refl)) (fenced_topic limits p t es is)
+after_topic limits p t t' es (Err topic_error.Fault) after is whole = subst (IsTopic limits p) (sym (after.fault refl)) (failed_topic limits p t es is)
 after_topic limits p t t' es (Err (topic_error.Full count)) after is whole = subst (IsTopic limits p) (sym (after.full count refl)) is
 after_topic limits p t t' es (Err topic_error.NoMemory) after is whole = subst (IsTopic limits p) (sym (after.memory refl)) is
 after_topic limits p t t' es (Err (topic_error.Damaged place)) after is whole = absurd (after.undamaged place refl)
@@ -188,7 +188,7 @@ module _ (v : EngineView) (is : IsEngine v) (whole : IsWhole v) (tied : IsTied v
       pub big_told : are_too_big v.limits bodies ≡ true → MayTell f g fs gs v r m (reply.No no.TooBig) v
       big_told big = short_told f g fs gs v r m (reply.No no.TooBig) v refl (row_told v is whole tied v.limits rose r no.TooBig (big_publish v.limits v topic bodies who p known kind own big))
 
-      module _ (small : are_too_big v.limits bodies ≡ false) (t : TopicView) (at : IsAt v (p - 1) t) where
+      module _ (small : are_too_big v.limits bodies ≡ false) (t : TopicView) (at : IsTopicAt v (p - 1) t) where
         early : early_refusal v.limits (whole_world v) r ≡ None
         early = early_publish v.limits v topic bodies who p known kind own small
 
@@ -223,13 +223,13 @@ full_some limits n m some h = rw (more 0 m some, more limits.log (n + m) h) refl
     more a b h = grind (arith, nat_tests)
 
 -- an engine whose topic is put back where it was
-pub put_back : (v : EngineView) (j : ℕ) (t t' : TopicView) → IsAt v j t → t' ≡ t → with_topics v (replaced v.topics j t') ≡ v
+pub put_back : (v : EngineView) (j : ℕ) (t t' : TopicView) → IsTopicAt v j t → t' ≡ t → with_topics v (replaced v.topics j t') ≡ v
 put_back v j t t' at same =
     ap (λ (u : TopicView). with_topics v (replaced v.topics j u)) (same ∙ sym at)
     ∙ ap (λ (ts : List TopicView). with_topics v ts) (sym (set_is v.topics j (get_or v.topics j (some_topic v))) ∙ set-get_or v.topics j (some_topic v))
 
 module _ (v : EngineView) (is : IsEngine v) (whole : IsWhole v) (tied : IsTied v) (f g : ℕ) (fs gs : ℕ → ℕ) (topic : List ℕ) (who : Option TxnId) (bodies : List (List ℕ)) (m : ℕ) (p : ℕ) (known : part_of v.names topic ≡ Some p) (own : foreign who ≡ None) (small : are_too_big v.limits bodies ≡ false)
-    (t : TopicView) (at : IsAt v (p - 1) t) (free : why_not_in (coord_skeletons v.coord.front) (topic_skeletons t.front) (1 + (p - 1)) who ≡ None) (some : 1 ≤ length bodies) where
+    (t : TopicView) (at : IsTopicAt v (p - 1) t) (free : why_not_in (coord_skeletons v.coord.front) (topic_skeletons t.front) (1 + (p - 1)) who ≡ None) (some : 1 ≤ length bodies) where
   abbrev asked : Request
   asked = request.Publish topic who bodies
 
@@ -251,10 +251,10 @@ module _ (v : EngineView) (is : IsEngine v) (whole : IsWhole v) (tied : IsTied v
       ∙ ap (λ (o : Option WhyNot). option_or (option_map (why_refusal topic) o) (option_map (λ (n : ℕ). no.Full Log n) (full_log v.limits (length t.front) (length bodies)))) free
 
   -- whether it is full
-  pub late_none : (v.limits.log < total_of t + length bodies → ⊥) → late_refusal v.limits (whole_table v) asked ≡ None
+  pub late_none : (v.limits.log < topic_total t + length bodies → ⊥) → late_refusal v.limits (whole_table v) asked ≡ None
   late_none room = late_is ∙ ap (option_map (λ (n : ℕ). no.Full Log n)) (full_none v.limits (length t.front) (length bodies) (λ h. room (subst (λ (n : ℕ). v.limits.log < n + length bodies) (one.all t_whole) h)))
 
-  late_full : (n : ℕ) → n ≡ total_of t → v.limits.log < total_of t + length bodies → late_refusal v.limits (whole_table v) asked ≡ Some (no.Full Log n)
+  late_full : (n : ℕ) → n ≡ topic_total t → v.limits.log < topic_total t + length bodies → late_refusal v.limits (whole_table v) asked ≡ Some (no.Full Log n)
   late_full n count full =
       late_is ∙ ap (option_map (λ (n : ℕ). no.Full Log n)) (full_some v.limits (length t.front) (length bodies) some (subst (λ (n : ℕ). v.limits.log < n + length bodies) (sym (one.all t_whole)) full))
       ∙ ap (λ (k : ℕ). Some (no.Full Log k)) (one.all t_whole ∙ sym count)
@@ -275,8 +275,8 @@ module _ (v : EngineView) (is : IsEngine v) (whole : IsWhole v) (tied : IsTied v
   in_place : (t' : TopicView) → t' ≡ t → (told : Reply) → Answers v.limits (RoseFor f g fs gs) (table_of v) asked told (table_of v) → Answers v.limits (RoseFor f g fs gs) (table_of v) asked told (table_of (after t'))
   in_place t' same told h = subst (λ (u : EngineView). Answers v.limits (RoseFor f g fs gs) (table_of v) asked told (table_of u)) (sym (put_back v (p - 1) t t' at same)) h
 
-  published : (t' : TopicView) (result : Result ℕ TopicError) (count : ℕ) → IsAfter t t' es result → count ≡ length bodies → IfOk result (λ place. place ≡ total_of t) → ((result ≡ Err (topic_error.Full (total_of t))) ↔ (v.limits.log < total_of t + length bodies)) → ((n : ℕ) → result ≡ Err (topic_error.Full n) → n ≡ total_of t)
-      → (buffer.IsFrontOf t → buffer.IsFrontOf t') → topic_entries (batch_of es ∷ []) ≡ es → CountsFaults t.content.key.part f g fs gs (result ≡ Err topic_error.Fault)
+  published : (t' : TopicView) (result : Result ℕ TopicError) (count : ℕ) → IsAfter t t' es result → count ≡ length bodies → IfOk result (λ place. place ≡ topic_total t) → ((result ≡ Err (topic_error.Full (topic_total t))) ↔ (v.limits.log < topic_total t + length bodies)) → ((n : ℕ) → result ≡ Err (topic_error.Full n) → n ≡ topic_total t)
+      → (buffer.IsFrontOf t → buffer.IsFrontOf t') → topic_entries (topic_batch es ∷ []) ≡ es → CountsFaults t.content.key.part f g fs gs (result ≡ Err topic_error.Fault)
       → Answers v.limits (RoseFor f g fs gs) (table_of v) asked (publish_reply topic count result) (table_of (after t'))
   published t' (Ok place) count is_after counted first full told_full tie back cause =
       let whole' : IsWhole (after t') = record { coord = whole.coord; topics = all_replaced (λ t. IsTrue t.whole) v.topics (p - 1) t' (subst (λ (u : TopicView). IsTrue u.whole) (sym is_after.ok) t_whole) whole.topics } in
@@ -286,34 +286,34 @@ module _ (v : EngineView) (is : IsEngine v) (whole : IsWhole v) (tied : IsTied v
       let table' : table_of (after t') ≡ with_batch (in_topic (1 + (p - 1)) es) (whole_table v) =
       table_is (after t') (after_engine t' (Ok place) is_after) whole' tied' ∙ topic_added v is whole tied (p - 1) (some_topic v) found.below es t' grown in
       told_from v is whole tied v.limits (RoseFor f g fs gs) asked (reply.Publish place count) (table_of (after t'))
-      (granted_here v.limits (RoseFor f g fs gs) v asked (reply.Publish place count) (table_of (after t')) early_none (late_none (λ h. never place (total_of t) (full.1 h)))
+      (granted_here v.limits (RoseFor f g fs gs) v asked (reply.Publish place count) (table_of (after t')) early_none (late_none (λ h. never place (topic_total t) (full.1 h)))
       (inl (
         ap₂ (λ (a : ℕ) (b : ℕ). reply.Publish a b) (first ∙ sym (one.all t_whole) ∙ ap (λ (u : TopicView). length u.front) (sym at) ∙ ap length (sym (list_is v topic p (p - 1) found))) counted,
-        table' ∙ ap (λ (b : Batch). with_batch b (whole_table v)) (sym adds),
+        table' ∙ ap (λ (b : EntryBatch). with_batch b (whole_table v)) (sym adds),
       )))
     where
       never : (place n : ℕ) → ◌≡◌ {A = Result ℕ TopicError} (Ok place) (Err (topic_error.Full n)) → ⊥
       never place n e = cc
   published t' (Err (topic_error.Full n)) count is_after counted first full told_full tie back cause =
-      let total : n ≡ total_of t = told_full n refl in
+      let total : n ≡ topic_total t = told_full n refl in
       in_place t' (is_after.full n refl) (reply.No (no.Full Log n))
       (late_told v is whole tied v.limits (RoseFor f g fs gs) asked (no.Full Log n) early_none (late_full n total (full.0 (ap (λ (k : ℕ). Err (topic_error.Full k)) total))))
   published t' (Err (topic_error.Damaged place)) count is_after counted first full told_full tie back cause = absurd (is_after.undamaged place refl)
   published t' (Err topic_error.NoMemory) count is_after counted first full told_full tie back cause = in_place t' (is_after.memory refl) (reply.No no.NoMemory) (memory_told v is whole tied v.limits (RoseFor f g fs gs) asked)
   published t' (Err topic_error.Fault) count is_after counted first full told_full tie back cause =
-      let now : t' ≡ buffer.fenced (get_or v.topics (p - 1) (some_topic v)) es = is_after.fault refl ∙ ap (λ (u : TopicView). buffer.fenced u es) (sym at) in
-      let table' : table_of (after t') ≡ fenced_by (in_topic (1 + (p - 1)) es) (1 + (p - 1)) (whole_table v) =
-      ap (λ (u : TopicView). table_of (after u)) now ∙ topic_fenced v is whole tied (p - 1) (some_topic v) found.below es back in
+      let now : t' ≡ buffer.with_failed_entries (get_or v.topics (p - 1) (some_topic v)) es = is_after.fault refl ∙ ap (λ (u : TopicView). buffer.with_failed_entries u es) (sym at) in
+      let table' : table_of (after t') ≡ with_failed_batch (in_topic (1 + (p - 1)) es) (1 + (p - 1)) (whole_table v) =
+      ap (λ (u : TopicView). table_of (after u)) now ∙ topic_failed v is whole tied (p - 1) (some_topic v) found.below es back in
       told_from v is whole tied v.limits (RoseFor f g fs gs) asked (reply.No (no.Fault topic)) (table_of (after t'))
-      (granted_here v.limits (RoseFor f g fs gs) v asked (reply.No (no.Fault topic)) (table_of (after t')) early_none (late_none (λ h. never (total_of t) (full.1 h)))
-      (inr (subst (λ (b : Batch). AppendFails (RoseFor f g fs gs) b (whole_table v) (reply.No (no.Fault topic)) (table_of (after t'))) (sym adds)
+      (granted_here v.limits (RoseFor f g fs gs) v asked (reply.No (no.Fault topic)) (table_of (after t')) early_none (late_none (λ h. never (topic_total t) (full.1 h)))
+      (inr (subst (λ (b : EntryBatch). AppendFails (RoseFor f g fs gs) b (whole_table v) (reply.No (no.Fault topic)) (table_of (after t'))) (sym adds)
       (1 + (p - 1), refl, rose_at t.content.key (1 + (p - 1)) f g fs gs one.key (cause.failed refl), ap (λ (n : List ℕ). reply.No (no.Fault n)) (sym found.named ∙ ap (name_of v.names) found.number), table'))))
     where
       never : (n : ℕ) → ◌≡◌ {A = Result ℕ TopicError} (Err topic_error.Fault) (Err (topic_error.Full n)) → ⊥
       never n e = cc
 
-  pub published_told : (t' : TopicView) (result : Result ℕ TopicError) (count : ℕ) → IsAfter t t' es result → count ≡ length bodies → IfOk result (λ place. place ≡ total_of t) → ((result ≡ Err (topic_error.Full (total_of t))) ↔ (v.limits.log < total_of t + length bodies)) → ((n : ℕ) → result ≡ Err (topic_error.Full n) → n ≡ total_of t)
-      → (buffer.IsFrontOf t → buffer.IsFrontOf t') → topic_entries (batch_of es ∷ []) ≡ es → CountsFaults t.content.key.part f g fs gs (result ≡ Err topic_error.Fault)
+  pub published_told : (t' : TopicView) (result : Result ℕ TopicError) (count : ℕ) → IsAfter t t' es result → count ≡ length bodies → IfOk result (λ place. place ≡ topic_total t) → ((result ≡ Err (topic_error.Full (topic_total t))) ↔ (v.limits.log < topic_total t + length bodies)) → ((n : ℕ) → result ≡ Err (topic_error.Full n) → n ≡ topic_total t)
+      → (buffer.IsFrontOf t → buffer.IsFrontOf t') → topic_entries (topic_batch es ∷ []) ≡ es → CountsFaults t.content.key.part f g fs gs (result ≡ Err topic_error.Fault)
       → MayTell f g fs gs v asked m (publish_reply topic count result) (after t')
   published_told t' result count is_after counted first full told_full tie back cause =
       short_told f g fs gs v asked m (publish_reply topic count result) (after t') (publish_short topic count result) (published t' result count is_after counted first full told_full tie back cause)

@@ -14,7 +14,7 @@ use Rattle.txn_base.specs.Frames.{records}
 use Rattle.txn_ledger.specs.Ledger.{IsFile, StandsIn}
 use Rattle.txn_buffer.specs.Adding.{messages_of, IsUnmarked}
 use Rattle.txn_buffer.specs.View as buffer
-use Rattle.txn_buffer.specs.View.{TopicView, batch_of, total_of, with_entries}
+use Rattle.txn_buffer.specs.View.{TopicView, topic_batch, topic_total, with_entries}
 use Rattle.txn_buffer.specs.declared.error.TopicError.{TopicError}
 use Rattle.txn_buffer.specs.declared.error.TopicError.TheVariants as topic_error
 use Rattle.txn_model.specs.Allowed.{IsAllowed}
@@ -28,13 +28,13 @@ use Rattle.txn_model.specs.World.{Lawful}
 use Rattle.txn_engine.specs.Kept.{IsTopic, IsEngine}
 use Rattle.txn_engine.specs.Publishing.{foreign, why_not_in, why_refusal, publish_reply}
 use Rattle.txn_engine.specs.Table.{world_of}
-use Rattle.txn_engine.specs.Told.{MayTell, Goes}
+use Rattle.txn_engine.specs.Told.{MayTell, EngineGoesOn}
 use Rattle.txn_engine.specs.View.{EngineView, IsWhole, IsTied, IsBacked, with_topics, replaced}
 use Rattle.txn_engine.specs.declared.publish.WhyNot.{WhyNot}
 use Rattle.txn_engine.proofs.BegunGoes.{row_allowed}
 use Rattle.txn_engine.proofs.Going.{goes_still, topic_goes}
 use Rattle.txn_engine.proofs.Lists.{set_is, at_index}
-use Rattle.txn_engine.proofs.Reading.{IsAt, is_topic_at}
+use Rattle.txn_engine.proofs.Reading.{IsTopicAt, is_topic_at}
 use Rattle.txn_engine.proofs.TopicRows.{Knows, knows}
 use Rattle.txn_engine.proofs.Worlds.{some_topic}
 use Rattle.txn_engine.proofs.Published.{unmarked, why_told, IsAfter, after_topic, engine_topics, put_back, early_none, late_none, adds}
@@ -43,7 +43,7 @@ use Rattle.txn_engine.proofs.Published.{unmarked, why_told, IsAfter, after_topic
 
 module _ {D : Type 0} (on : Ghosts D) (v : EngineView) (is : IsEngine v) (whole : IsWhole v) (old new : D) (backed : IsBacked (on.image old) v)
     (topic : List ℕ) (who : Option TxnId) (bodies : List (List ℕ)) (p : ℕ) (known : part_of v.names topic ≡ Some p) (own : foreign who ≡ None) (small : are_too_big v.limits bodies ≡ false)
-    (t : TopicView) (at : IsAt v (p - 1) t) (free : why_not_in (coord_skeletons v.coord.front) (topic_skeletons t.front) (1 + (p - 1)) who ≡ None) (some : 1 ≤ length bodies) (t' : TopicView) where
+    (t : TopicView) (at : IsTopicAt v (p - 1) t) (free : why_not_in (coord_skeletons v.coord.front) (topic_skeletons t.front) (1 + (p - 1)) who ≡ None) (some : 1 ≤ length bodies) (t' : TopicView) where
   abbrev entries : List TopicEntry
   entries = messages_of who bodies
 
@@ -59,32 +59,32 @@ module _ {D : Type 0} (on : Ghosts D) (v : EngineView) (is : IsEngine v) (whole 
   whole_is : IsTrue t.whole
   whole_is = subst (λ (u : TopicView). IsTrue u.whole) at (at_index (λ t. IsTrue t.whole) v.topics (p - 1) (some_topic v) place_of.below whole.topics)
 
-  may : (v.limits.log < total_of t + length bodies → ⊥) → IsTied v → Lawful (world_of v) → IsAllowed (in_topic (1 + (p - 1)) entries) (world_of v)
+  may : (v.limits.log < topic_total t + length bodies → ⊥) → IsTied v → Lawful (world_of v) → IsAllowed (in_topic (1 + (p - 1)) entries) (world_of v)
   may room tied =
       row_allowed v is whole (request.Publish topic who bodies) (in_topic (1 + (p - 1)) entries) (early_none v is whole tied 0 0 (λ q. 0) (λ q. 0) topic who bodies 0 p known own small t at free some)
       (late_none v is whole tied 0 0 (λ q. 0) (λ q. 0) topic who bodies 0 p known own small t at free some room) (adds v is whole tied 0 0 (λ q. 0) (λ q. 0) topic who bodies 0 p known own small t at free some) tied
 
-  still : (X : Type 0) → (X → ⊥) → t' ≡ t → new ≡ old → Goes on X v later old new
+  still : (X : Type 0) → (X → ⊥) → t' ≡ t → new ≡ old → EngineGoesOn on X v later old new
   still X none same disk =
-      subst (λ (d : D). Goes on X v later old d) (sym disk)
-      (subst (λ (u : EngineView). Goes on X v u old old) (sym (put_back v (p - 1) t t' at same)) (goes_still on X none v v old whole backed refl refl refl))
+      subst (λ (d : D). EngineGoesOn on X v later old d) (sym disk)
+      (subst (λ (u : EngineView). EngineGoesOn on X v u old old) (sym (put_back v (p - 1) t t' at same)) (goes_still on X none v v old whole backed refl refl refl))
 
-  changed : (X Y : Type 0) → (v.limits.log < total_of t + length bodies → ⊥) → RecordsOf IsBareRecord (records (batch_of entries ∷ [])) entries → IsTrue t'.whole ⊎ X → (buffer.IsFrontOf t → buffer.IsFrontOf t') → Backed StandsIn (on.image new) t'.content
-      → After on (Appends IsFile StandsIn t.content (batch_of entries)) old new → Elsewhere t.content.key (on.seen old) (on.seen new) → FaultsIn on t.content.key.part old new Y → (X → Y) → Goes on X v later old new
+  changed : (X Y : Type 0) → (v.limits.log < topic_total t + length bodies → ⊥) → RecordsOf IsBareRecord (records (topic_batch entries ∷ [])) entries → IsTrue t'.whole ⊎ X → (buffer.IsFrontOf t → buffer.IsFrontOf t') → Backed StandsIn (on.image new) t'.content
+      → After on (Appends IsFile StandsIn t.content (topic_batch entries)) old new → Elsewhere t.content.key (on.seen old) (on.seen new) → FaultsIn on t.content.key.part old new Y → (X → Y) → EngineGoesOn on X v later old new
   changed X Y room each now tie here since others cause means =
       let here_is : t ≡ get_or v.topics (p - 1) (some_topic v) = sym at in
       topic_goes on v is whole old new backed (p - 1) place_of.below X Y entries t' later (subst (λ (u : TopicView). u.content.key ≡ ledger_file (1 + (p - 1))) here_is topic_is.key) each (may room) refl refl refl now
       (subst (λ (u : TopicView). buffer.IsFrontOf u → buffer.IsFrontOf t') here_is tie) here
-      (subst (λ (u : TopicView). After on (Appends IsFile StandsIn u.content (batch_of entries)) old new) here_is since)
+      (subst (λ (u : TopicView). After on (Appends IsFile StandsIn u.content (topic_batch entries)) old new) here_is since)
       (subst (λ (u : TopicView). Elsewhere u.content.key (on.seen old) (on.seen new)) here_is others)
       (subst (λ (u : TopicView). FaultsIn on u.content.key.part old new Y) here_is cause) means
 
-  pub published_goes : (result : Result ℕ TopicError) (count : ℕ) → IsAfter t t' entries result → ((result ≡ Err (topic_error.Full (total_of t))) ↔ (v.limits.log < total_of t + length bodies)) → RecordsOf IsBareRecord (records (batch_of entries ∷ [])) entries → ((n : ℕ) → result ≡ Err (topic_error.Full n) → new ≡ old)
+  pub published_goes : (result : Result ℕ TopicError) (count : ℕ) → IsAfter t t' entries result → ((result ≡ Err (topic_error.Full (topic_total t))) ↔ (v.limits.log < topic_total t + length bodies)) → RecordsOf IsBareRecord (records (topic_batch entries ∷ [])) entries → ((n : ℕ) → result ≡ Err (topic_error.Full n) → new ≡ old)
       → (result ≡ Err topic_error.NoMemory → new ≡ old) → (buffer.IsFrontOf t → buffer.IsFrontOf t') → Backed StandsIn (on.image new) t'.content
-      → After on (Appends IsFile StandsIn t.content (batch_of entries)) old new → Elsewhere t.content.key (on.seen old) (on.seen new) → FaultsIn on t.content.key.part old new (result ≡ Err topic_error.Fault)
-      → Goes on (is_fault (publish_reply topic count result) ≡ true) v later old new
+      → After on (Appends IsFile StandsIn t.content (topic_batch entries)) old new → Elsewhere t.content.key (on.seen old) (on.seen new) → FaultsIn on t.content.key.part old new (result ≡ Err topic_error.Fault)
+      → EngineGoesOn on (is_fault (publish_reply topic count result) ≡ true) v later old new
   published_goes (Ok place) count is_after full each unwritten memory tie here since others cause =
-      changed (false ≡ true) (◌≡◌ {A = Result ℕ TopicError} (Ok place) (Err topic_error.Fault)) (λ h. never place (total_of t) (full.1 h)) each (inl (subst (λ (u : TopicView). IsTrue u.whole) (sym is_after.ok) whole_is)) tie here since others cause (λ h. cc)
+      changed (false ≡ true) (◌≡◌ {A = Result ℕ TopicError} (Ok place) (Err topic_error.Fault)) (λ h. never place (topic_total t) (full.1 h)) each (inl (subst (λ (u : TopicView). IsTrue u.whole) (sym is_after.ok) whole_is)) tie here since others cause (λ h. cc)
     where
       never : (place n : ℕ) → ◌≡◌ {A = Result ℕ TopicError} (Ok place) (Err (topic_error.Full n)) → ⊥
       never place n e = cc
@@ -92,7 +92,7 @@ module _ {D : Type 0} (on : Ghosts D) (v : EngineView) (is : IsEngine v) (whole 
   published_goes (Err (topic_error.Damaged place)) count is_after full each unwritten memory tie here since others cause = absurd (is_after.undamaged place refl)
   published_goes (Err topic_error.NoMemory) count is_after full each unwritten memory tie here since others cause = still (false ≡ true) (λ h. cc) (is_after.memory refl) (memory refl)
   published_goes (Err topic_error.Fault) count is_after full each unwritten memory tie here since others cause =
-      changed (true ≡ true) (◌≡◌ {A = Result ℕ TopicError} (Err topic_error.Fault) (Err topic_error.Fault)) (λ h. never (total_of t) (full.1 h)) each (inr refl) tie here since others cause (λ h. refl)
+      changed (true ≡ true) (◌≡◌ {A = Result ℕ TopicError} (Err topic_error.Fault) (Err topic_error.Fault)) (λ h. never (topic_total t) (full.1 h)) each (inr refl) tie here since others cause (λ h. refl)
     where
       never : (n : ℕ) → ◌≡◌ {A = Result ℕ TopicError} (Err topic_error.Fault) (Err (topic_error.Full n)) → ⊥
       never n e = cc
@@ -104,7 +104,7 @@ why_is v topic p found who o t u same e =
     ap₂ (λ (s : TopicView) (q : ℕ). why_not_in (coord_skeletons v.coord.front) (topic_skeletons s.front) q who) same (sym found.number) ∙ sym e
 
 -- by the bodies that were copied
-pub after_call : (t t' : TopicView) (who : Option TxnId) (copies bodies : List (List ℕ)) (result : Result ℕ TopicError) (D : Type 0) (old new : D) → copies ≡ bodies → OnOk result (t' ≡ with_entries t (messages_of who copies) t.reserved) → (result ≡ Err topic_error.Fault → t' ≡ buffer.fenced t (messages_of who copies))
+pub after_call : (t t' : TopicView) (who : Option TxnId) (copies bodies : List (List ℕ)) (result : Result ℕ TopicError) (D : Type 0) (old new : D) → copies ≡ bodies → OnOk result (t' ≡ with_entries t (messages_of who copies) t.reserved) → (result ≡ Err topic_error.Fault → t' ≡ buffer.with_failed_entries t (messages_of who copies))
     → ((count : ℕ) → result ≡ Err (topic_error.Full count) → (t' ≡ t) × (new ≡ old)) → (result ≡ Err topic_error.NoMemory → (t' ≡ t) × (new ≡ old)) → ((place : ℕ) → result ≡ Err (topic_error.Damaged place) → ⊥) → IsAfter t t' (messages_of who bodies) result
 after_call t t' who copies bodies result D old new same ok fault full memory undamaged =
     subst (λ (bs : List (List ℕ)). IsAfter t t' (messages_of who bs) result) same
@@ -133,7 +133,7 @@ why_answer v is whole tied f g fs gs topic who bodies m p known own small o why 
     let t : TopicView = get_or v.topics (p - 1) (some_topic v) in
     why_told v is whole tied f g fs gs topic who bodies m p known own small t refl why (why_is v topic p (knows v is topic p known) who o t t refl (says (some_topic v)) ∙ e)
 
-pub published_engine : (v : EngineView) → IsEngine v → IsWhole v → (topic : List ℕ) (p : ℕ) → Knows v topic p (p - 1) → (t t' : TopicView) → IsAt v (p - 1) t → (es : List TopicEntry) (result : Result ℕ TopicError) → IsAfter t t' es result → IsEngine (with_topics v (replaced v.topics (p - 1) t'))
+pub published_engine : (v : EngineView) → IsEngine v → IsWhole v → (topic : List ℕ) (p : ℕ) → Knows v topic p (p - 1) → (t t' : TopicView) → IsTopicAt v (p - 1) t → (es : List TopicEntry) (result : Result ℕ TopicError) → IsAfter t t' es result → IsEngine (with_topics v (replaced v.topics (p - 1) t'))
 published_engine v is whole topic p found t t' at es result is_after =
     engine_topics v is (p - 1) t' (after_topic v.limits (1 + (p - 1)) t t' es result is_after (is_topic_at v is (p - 1) t found.below at)
     (subst (λ (u : TopicView). IsTrue u.whole) at (at_index (λ t. IsTrue t.whole) v.topics (p - 1) (some_topic v) found.below whole.topics)))

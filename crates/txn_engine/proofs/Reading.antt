@@ -27,7 +27,7 @@ use Rattle.txn_buffer.specs.View.{TopicView, IsFrontOf}
 use Rattle.txn_wire.specs.Short.{IsPartName}
 use Rattle.txn_engine.specs.Above.{StandsAbove, KeepsAboveIf}
 use Rattle.txn_engine.specs.Kept.{IsTopic, IsEngine}
-use Rattle.txn_engine.specs.Told.{MayTell, RoseFor, Goes}
+use Rattle.txn_engine.specs.Told.{MayTell, RoseFor, EngineGoesOn}
 use Rattle.txn_engine.specs.View.{EngineView, IsWhole, IsTied, IsBacked}
 use Rattle.txn_engine.proofs.Begun.{short_told, row_told, memory_told}
 use Rattle.txn_engine.proofs.Files.{only_none, images_same}
@@ -41,16 +41,16 @@ use Rattle.txn_engine.proofs.Worlds.{some_topic}
 -- ---- The topic at an index.
 
 -- A topic that was looked at is the one at the index j.
-abbrev pub IsAt : EngineView → ℕ → TopicView → Type 0
-IsAt v j t = get_or v.topics j (some_topic v) ≡ t
+abbrev pub IsTopicAt : EngineView → ℕ → TopicView → Type 0
+IsTopicAt v j t = get_or v.topics j (some_topic v) ≡ t
 
-pub at_place : (v : EngineView) (j : ℕ) (t : TopicView) → j < length v.topics → t ≡ get_or v.topics j t → IsAt v j t
+pub at_place : (v : EngineView) (j : ℕ) (t : TopicView) → j < length v.topics → t ≡ get_or v.topics j t → IsTopicAt v j t
 at_place v j t below e = get_or_default v.topics j (some_topic v) t below ∙ sym e
 
-pub at_known : (v : EngineView) (topic : List ℕ) (p j : ℕ) → Knows v topic p j → (t : TopicView) → t ≡ get_or v.topics j t → IsAt v j t
+pub at_known : (v : EngineView) (topic : List ℕ) (p j : ℕ) → Knows v topic p j → (t : TopicView) → t ≡ get_or v.topics j t → IsTopicAt v j t
 at_known v topic p j found t e = at_place v j t found.below e
 
-pub is_topic_at : (v : EngineView) → IsEngine v → (j : ℕ) (t : TopicView) → j < length v.topics → IsAt v j t → IsTopic v.limits (1 + j) t
+pub is_topic_at : (v : EngineView) → IsEngine v → (j : ℕ) (t : TopicView) → j < length v.topics → IsTopicAt v j t → IsTopic v.limits (1 + j) t
 is_topic_at v is j t below at = subst (IsTopic v.limits (1 + j)) at (topic_at v.limits 1 v.topics j (some_topic v) (1 + j) refl below is.topics)
 
 pub tied_at : (v : EngineView) (topic : List ℕ) (p j : ℕ) → Knows v topic p j → (t : TopicView) → t ≡ get_or v.topics j t → IsTied v → IsFrontOf t
@@ -79,7 +79,7 @@ module _ (v : EngineView) (is : IsEngine v) (whole : IsWhole v) (tied : IsTied v
       subst (λ (r : Reply). MayTell f g fs gs v (request.Read topic first max) m r v) (sym e)
       (short_told f g fs gs v (request.Read topic first max) m (reply.No no.NoMemory) v refl (memory_told v is whole tied v.limits rose (request.Read topic first max)))
 
-  module _ (p : ℕ) (known : part_of v.names topic ≡ Some p) (t : TopicView) (at : IsAt v (p - 1) t) where
+  module _ (p : ℕ) (known : part_of v.names topic ≡ Some p) (t : TopicView) (at : IsTopicAt v (p - 1) t) where
     here : Knows v topic p (p - 1)
     here = knows v is topic p known
 
@@ -117,8 +117,8 @@ module _ {D : Type 0} (on : Ghosts D) (old new : D) (since : After on Same old n
       All-cons (λ t. Backed StandsIn (on.image new) t.content) t ts (same_backed t.content (All-head (λ t. Backed StandsIn (on.image old) t.content) t ts backed))
       (topics_same_backed ts (All-tail (λ t. Backed StandsIn (on.image old) t.content) t ts backed))
 
-  pub read_goes : on.seen new ≡ on.seen old → (v : EngineView) → IsEngine v → IsWhole v → IsBacked (on.image old) v → (topic : List ℕ) (p : ℕ) → part_of v.names topic ≡ Some p → (t : TopicView) → IsAt v (p - 1) t → (X Y : Type 0)
-      → FaultsIn on t.content.key.part old new Y → (X → Y) → Goes on X v v old new
+  pub read_goes : on.seen new ≡ on.seen old → (v : EngineView) → IsEngine v → IsWhole v → IsBacked (on.image old) v → (topic : List ℕ) (p : ℕ) → part_of v.names topic ≡ Some p → (t : TopicView) → IsTopicAt v (p - 1) t → (X Y : Type 0)
+      → FaultsIn on t.content.key.part old new Y → (X → Y) → EngineGoesOn on X v v old new
   read_goes still v is whole backed topic p known t at X Y cause means =
       let found = knows v is topic p known in
       let one : IsTopic v.limits (1 + (p - 1)) t = is_topic_at v is (p - 1) t found.below at in

@@ -14,13 +14,13 @@ use Rattle.txn_engine.specs.Kept.{IsEngine}
 use Rattle.txn_engine.specs.View.{EngineView, IsWhole, with_coord, with_topics, replaced}
 use Rattle.txn_engine.proofs.Decided.{on_ok, by_result, from_ok}
 use Rattle.txn_engine.proofs.Lists.{set_is}
-use Rattle.txn_engine.proofs.Reading.{IsAt}
+use Rattle.txn_engine.proofs.Reading.{IsTopicAt}
 use Rattle.txn_engine.proofs.Same.{topics_same, reserved_one, same_then, same_itself, same_engine, same_whole}
 use Rattle.txn_engine.proofs.Worlds.{some_topic}
 
 -- ---- One topic.
 
-module _ {E : Type 0} (v : EngineView) (w : EngineView) (view : v ≡ w) (j : ℕ) (below : j < length v.topics) (t t' : TopicView) (at : IsAt v j t) (r : Result (Unit {0}) E) (ok : OnOk r (t' ≡ with_reserved t 1)) (err : OnErr r (t' ≡ t)) where
+module _ {E : Type 0} (v : EngineView) (w : EngineView) (view : v ≡ w) (j : ℕ) (below : j < length v.topics) (t t' : TopicView) (at : IsTopicAt v j t) (r : Result (Unit {0}) E) (ok : OnOk r (t' ≡ with_reserved t 1)) (err : OnErr r (t' ≡ t)) where
   with_room : (n : ℕ) → t' ≡ with_reserved t n → AreSameTopics v.topics (replaced v.topics j t')
   with_room n e = subst (λ (k : TopicView). AreSameTopics v.topics (replaced v.topics j k)) (sym (e ∙ ap (λ (k : TopicView). with_reserved k n) (sym at))) (reserved_one v.topics j n (some_topic v) below)
 

@@ -30,7 +30,7 @@ use Rattle.txn_engine.specs.Ending.{AreSameTopics, IsSameBut}
 use Rattle.txn_engine.specs.Files.{OnlyLedgers}
 use Rattle.txn_engine.specs.Kept.{IsCoordinator, IsTopic, AreTopics, IsEngine}
 use Rattle.txn_engine.specs.Table.{coord_flight, topic_flight, lists_from, flights_from, unrebuilt_from, table_of}
-use Rattle.txn_engine.specs.Told.{MayTell, RoseFor, Goes}
+use Rattle.txn_engine.specs.Told.{MayTell, RoseFor, EngineGoesOn}
 use Rattle.txn_engine.specs.View.{EngineView, IsWhole, IsTied, IsBacked, replaced}
 use Rattle.txn_engine.proofs.Coordinators.{reserving_is}
 use Rattle.txn_engine.proofs.Going.{counts_still}
@@ -115,7 +115,7 @@ module _ (v v' : EngineView) (same : IsSameBut v v') where
       λ i. record {
         world = record { names = same.names i; coord = coord_entries (same.coord i).content.batches; topics = lists i; subs = [] };
         flights = record { coord = coord_flight (same.coord i).content.standing; topics = λ p. list_at (flights i) p; subs = λ p. [] };
-        fenced = λ p. if p == 0 then not (same.coord i).whole else unrebuilt_same 1 v.topics v'.topics same.topics p i;
+        unrebuilt = λ p. if p == 0 then not (same.coord i).whole else unrebuilt_same 1 v.topics v'.topics same.topics p i;
         latest = same.latest i;
         opened_low = (same.coord i).opened_low;
         given = λ s. nowhere;
@@ -163,7 +163,7 @@ module _ (v v' : EngineView) (same : IsSameBut v v') where
 
 module _ {D : Type 0} (on : Ghosts D) where
   -- room that is reserved
-  pub goes_same : (X : Type 0) → (X → ⊥) → (v v' : EngineView) (disk : D) → IsWhole v → IsBacked (on.image disk) v → IsSameBut v v' → Goes on X v v' disk disk
+  pub goes_same : (X : Type 0) → (X → ⊥) → (v v' : EngineView) (disk : D) → IsWhole v → IsBacked (on.image disk) v → IsSameBut v v' → EngineGoesOn on X v v' disk disk
   goes_same X none v v' disk whole backed same = record {
     names = same.names;
     whole = inl (same_whole v v' same whole);

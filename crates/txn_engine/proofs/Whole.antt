@@ -15,9 +15,9 @@ use Rattle.txn_model.specs.Table.{TableState}
 use Rattle.txn_model.specs.Words.{nowhere}
 use Rattle.txn_model.specs.World.{no_flights}
 use Rattle.txn_buffer.specs.View as topic
-use Rattle.txn_buffer.specs.View.{TopicView, total_of}
+use Rattle.txn_buffer.specs.View.{TopicView, topic_total}
 use Rattle.txn_coordinator.specs.View as coordinator
-use Rattle.txn_coordinator.specs.View.{CoordView, length_of}
+use Rattle.txn_coordinator.specs.View.{CoordView, coord_total}
 use Rattle.txn_engine.specs.Kept.{IsCoordinator, IsTopic, AreTopics, IsEngine}
 use Rattle.txn_engine.specs.Table.{coord_flight, lists_from, unrebuilt_from, world_of, table_of}
 use Rattle.txn_engine.specs.View.{EngineView, IsWhole, IsTied}
@@ -56,7 +56,7 @@ abbrev pub whole_world : EngineView → World
 whole_world v = record { names = v.names; coord = v.coord.front; topics = fronts_from 1 v.topics; subs = [] }
 
 abbrev pub whole_table : EngineView → TableState
-whole_table v = record { world = whole_world v; flights = no_flights; fenced = nowhere; latest = v.latest; opened_low = v.coord.opened_low; given = λ s. nowhere }
+whole_table v = record { world = whole_world v; flights = no_flights; unrebuilt = nowhere; latest = v.latest; opened_low = v.coord.opened_low; given = λ s. nowhere }
 
 module _ (v : EngineView) (is : IsEngine v) (whole : IsWhole v) where
   pub settled_topics : All (λ t. t.content.standing ≡ settled) v.topics
@@ -68,8 +68,8 @@ module _ (v : EngineView) (is : IsEngine v) (whole : IsWhole v) where
       let topics : lists_from 1 v.topics ≡ fronts_from 1 v.topics = lists_are v.limits 1 v.topics is.topics whole.topics tied.topics in
       λ i. record { names = v.names; coord = coord i; topics = topics i; subs = [] }
 
-  no_fence : (p : ℕ) → (if p == 0 then not v.coord.whole else unrebuilt_from 1 v.topics p) ≡ false
-  no_fence p = by_test (p == 0) (ap not whole.coord) (none_unrebuilt 1 v.topics whole.topics p)
+  none_unrebuilt_here : (p : ℕ) → (if p == 0 then not v.coord.whole else unrebuilt_from 1 v.topics p) ≡ false
+  none_unrebuilt_here p = by_test (p == 0) (ap not whole.coord) (none_unrebuilt 1 v.topics whole.topics p)
     where
       by_test : (b : Bool) {x y : Bool} → x ≡ false → y ≡ false → (if b then x else y) ≡ false
       by_test true e h = e
@@ -82,7 +82,7 @@ module _ (v : EngineView) (is : IsEngine v) (whole : IsWhole v) where
       λ i. record {
         world = world i;
         flights = record { coord = flight i; topics = λ p. no_flight 1 v.topics settled_topics p i; subs = λ p. [] };
-        fenced = λ p. no_fence p i;
+        unrebuilt = λ p. none_unrebuilt_here p i;
         latest = v.latest;
         opened_low = v.coord.opened_low;
         given = λ s. nowhere;

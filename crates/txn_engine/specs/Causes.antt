@@ -13,8 +13,8 @@ use Rattle.txn_model.specs.LateRows.{late_refusal}
 use Rattle.txn_model.specs.Table.{TableState}
 
 -- In a table whose parts are rebuilt, the first row that comes for a request, in the one order of all rows; or none.
-abbrev pub first_row : Limits → TableState → Request → Option Refusal
-first_row limits t r = option_or (early_refusal limits t.world r) (late_refusal limits t r)
+abbrev pub first_refusal : Limits → TableState → Request → Option Refusal
+first_refusal limits t r = option_or (early_refusal limits t.world r) (late_refusal limits t r)
 
 -- A refusal that a row gives: not that of a fault, of damage, of a part that is being rebuilt or of memory.
 abbrev pub IsByRow : Refusal → Type 0

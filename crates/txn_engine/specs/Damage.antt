@@ -20,7 +20,7 @@ is_damage _ = false
 -- There is a topic of this name, and a read of it from the first place on comes by this place: it isn't before the first one,
 -- and is before the limit of the topic's front. Where the disk tells what it holds, the record there is in no grammar of a
 -- topic's ledger.
-pub record IsDamagedAt (tells : Type 0) (v : EngineView) (name : List ℕ) (first place : ℕ) : Type 0 where
+pub record IsDamagedPlace (tells : Type 0) (v : EngineView) (name : List ℕ) (first place : ℕ) : Type 0 where
   pub number : ℕ
   pub known : part_of v.names name ≡ Some number
   pub topic : TopicView
@@ -31,5 +31,5 @@ pub record IsDamagedAt (tells : Type 0) (v : EngineView) (name : List ℕ) (firs
 
 -- The request reads the topic of this name, which is damaged at this place so.
 abbrev pub IsDamageIn : Type 0 → EngineView → Request → List ℕ → ℕ → Type 0
-IsDamageIn tells v (request.Read topic first max) part place = (part ≡ topic) × IsDamagedAt tells v topic first place
+IsDamageIn tells v (request.Read topic first max) part place = (part ≡ topic) × IsDamagedPlace tells v topic first place
 IsDamageIn tells v _ part place = ⊥

@@ -22,9 +22,9 @@ use Rattle.txn_engine.specs.View.{EngineView}
 use Rattle.txn_wire.specs.Short.{IsShortStuck}
 
 -- The request for an end by this decision.
-abbrev pub end_of : Decision → TxnId → Request
-end_of Commit x = request.Commit x
-end_of Abort x = request.Abort x
+abbrev pub end_request : Decision → TxnId → Request
+end_request Commit x = request.Commit x
+end_request Abort x = request.Abort x
 
 -- Each of these topics is the one before, but for the ends for which room is reserved.
 abbrev pub AreSameTopics : List TopicView → List TopicView → Type 0

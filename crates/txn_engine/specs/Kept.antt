@@ -10,7 +10,7 @@ use Rattle.txn_model.specs.Skeletons.{coord_skeletons}
 use Rattle.txn_model.specs.Sound.{ledger_file}
 use Rattle.txn_coordinator.specs.View as coordinator
 use Rattle.txn_coordinator.specs.View.{CoordView}
-use Rattle.txn_buffer.specs.View.{TopicView, total_of}
+use Rattle.txn_buffer.specs.View.{TopicView, topic_total}
 use Rattle.txn_engine.specs.View.{EngineView}
 
 -- The coordinator of n named parts has its ledger in the file of part 0, under these limits; the parts that it added are
@@ -20,7 +20,7 @@ pub record IsCoordinator (limits : Limits) (n : ℕ) (v : CoordView) : Type 0 wh
   pub limits_are : v.limits ≡ limits
   pub lawful : CoordLawful n (coord_skeletons v.front)
   pub settled_is : IsTrue v.whole → v.content.standing ≡ settled
-  pub all : IsTrue v.whole → length v.front ≡ coordinator.length_of v
+  pub all : IsTrue v.whole → length v.front ≡ coordinator.coord_total v
 
 -- A topic is the part p, with its ledger in that part's file, under these limits. Where it is whole, nothing is in flight
 -- and its front is all that its ledger has.
@@ -29,7 +29,7 @@ pub record IsTopic (limits : Limits) (p : ℕ) (v : TopicView) : Type 0 where
   pub part_is : v.part ≡ p
   pub limits_are : v.limits ≡ limits
   pub settled_is : IsTrue v.whole → v.content.standing ≡ settled
-  pub all : IsTrue v.whole → length v.front ≡ total_of v
+  pub all : IsTrue v.whole → length v.front ≡ topic_total v
 
 -- Under these limits, the topics are the parts from k on, in order.
 abbrev pub AreTopics : Limits → ℕ → List TopicView → Type 0

@@ -6,7 +6,7 @@ use Rattle.txn_base.specs.Decoded.{coord_entry_of, coord_entries, topic_entries}
 use Rattle.txn_base.specs.Disk.{Files}
 use Rattle.txn_base.specs.Frames.{Batch, records, Stands, IsDamagedAt}
 use Rattle.txn_base.specs.Records.{IsCoordRecord}
-use Rattle.txn_buffer.specs.Mending.{IsFirstBad}
+use Rattle.txn_buffer.specs.Mending.{IsFirstBadRecord}
 use Rattle.txn_buffer.specs.Record.{IsInGrammar}
 use Rattle.txn_buffer.specs.View as topic
 use Rattle.txn_buffer.specs.View.{TopicView}
@@ -40,7 +40,7 @@ abbrev pub IsDamagedLog : ℕ → List ℕ → ℕ → Type 0
 IsDamagedLog n bytes entry = IsDamagedAt bytes entry ⊎ ((batches : List Batch) × Stands bytes batches × (entry < length (records batches)) × IsFirstBadIn n batches entry)
 
 abbrev pub IsDamagedTopic : List ℕ → ℕ → Type 0
-IsDamagedTopic bytes entry = IsDamagedAt bytes entry ⊎ ((batches : List Batch) × Stands bytes batches × (entry < length (records batches)) × IsFirstBad batches entry)
+IsDamagedTopic bytes entry = IsDamagedAt bytes entry ⊎ ((batches : List Batch) × Stands bytes batches × (entry < length (records batches)) × IsFirstBadRecord batches entry)
 
 -- Of n named parts, which are topics, the bytes of the part p are as they have to be; or they are damaged at this entry.
 abbrev pub IsPart : ℕ → ℕ → List ℕ → Type 0

@@ -45,7 +45,7 @@ table_of v =
     record {
       world = world_of v;
       flights = record { coord = coord_flight v.coord.content.standing; topics = λ p. list_at (flights_from 1 v.topics) p; subs = λ p. [] };
-      fenced = λ p. if p == 0 then not v.coord.whole else unrebuilt_from 1 v.topics p;
+      unrebuilt = λ p. if p == 0 then not v.coord.whole else unrebuilt_from 1 v.topics p;
       latest = v.latest;
       opened_low = v.coord.opened_low;
       given = λ s. nowhere;

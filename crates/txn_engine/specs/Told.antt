@@ -61,7 +61,7 @@ FaultsWithin disk n old new is_fault =
 -- From v to v', over these disks, all that was rebuilt stays so, or a fault is told; what is rebuilt stays tied to the
 -- ledgers, and they to each image; whatever world each image at the call extends soundly, each image since does; and no
 -- file but the ledgers of the engine changes, as it reads and in each image.
-pub record Goes {D : Type 0} (disk : Ghosts D) (is_fault : Type 0) (v v' : EngineView) (old new : D) : Type 0 where
+pub record EngineGoesOn {D : Type 0} (disk : Ghosts D) (is_fault : Type 0) (v v' : EngineView) (old new : D) : Type 0 where
   pub names : v'.names ≡ v.names
   pub whole : IsWhole v' ⊎ is_fault
   pub tied : IsTied v → IsTied v'

@@ -5,12 +5,12 @@ ghost use Rattle.txn_base.specs.Moves.{RoseIn};
 ghost use Rattle.txn_base.specs.declared.reply.Reply.TheVariants as reply;
 ghost use Rattle.txn_base.specs.declared.reply.Refusal.TheVariants as no;
 ghost use Rattle.txn_base.specs.declared.reply.Refusal.{Refusal};
-ghost use Rattle.txn_engine.specs.Causes.{first_row, IsByRow, TellsEarly};
+ghost use Rattle.txn_engine.specs.Causes.{first_refusal, IsByRow, TellsEarly};
 ghost use Rattle.txn_engine.specs.Damage.{IsDamageIn};
 ghost use Rattle.txn_engine.specs.Faults.{fault_name, RoseByName};
 ghost use Rattle.txn_engine.specs.Kept.{IsEngine};
 ghost use Rattle.txn_engine.specs.Table.{table_of, world_of};
-ghost use Rattle.txn_engine.specs.Told.{IsAsked, IsTellable, Goes};
+ghost use Rattle.txn_engine.specs.Told.{IsAsked, IsTellable, EngineGoesOn};
 ghost use Rattle.txn_engine.specs.View.{IsWhole, IsTied, IsBacked};
 ghost use Rattle.txn_model.specs.declared.world.World.{World};
 ghost use Rattle.txn_model.specs.Answers.{AnswersAt, moved};
@@ -42,8 +42,8 @@ impl Engine {
 
         // A refusal by a row is told where that row is the first that comes, and nowhere else. Want of memory may be told in its
         // place.
-        ensures rows { D.tells → IsTied self.old → (row : Refusal) → IsByRow row → result ≡ reply.No row → first_row self.old.limits (moved request.now now (table_of self.old)) request.now ≡ Some row }
-        ensures causes { D.tells → IsTied self.old → (row : Refusal) → first_row self.old.limits (moved request.now now (table_of self.old)) request.now ≡ Some row → (result ≡ reply.No row) ⊎ (result ≡ reply.No no.NoMemory) }
+        ensures rows { D.tells → IsTied self.old → (row : Refusal) → IsByRow row → result ≡ reply.No row → first_refusal self.old.limits (moved request.now now (table_of self.old)) request.now ≡ Some row }
+        ensures causes { D.tells → IsTied self.old → (row : Refusal) → first_refusal self.old.limits (moved request.now now (table_of self.old)) request.now ≡ Some row → (result ≡ reply.No row) ⊎ (result ≡ reply.No no.NoMemory) }
 
         // So it is on any disk where that row looks at the request and the names alone.
         ensures early { TellsEarly self.old.limits (world_of self.old) request.now result }
@@ -64,7 +64,7 @@ impl Engine {
         // What was rebuilt stays so, or a fault is told. Whatever world each image at the call extends soundly, each image at any
         // moment since does; no file but the ledgers of these parts changes, as it reads and in each image; and the counts rose
         // where a fault is told.
-        ensures goes { Goes D.Disk (is_fault result ≡ true) self.old self.new disk.old disk.new }
+        ensures goes { EngineGoesOn D.Disk (is_fault result ≡ true) self.old self.new disk.old disk.new }
 
         // Whatever a stop leaves afterwards is what the table keeps of one: each batch in flight whole or not at all.
         ensures leaves { (c : Files) (w : World) → D.image disk.new c → StandsFor self.new.names c w → StandsForKept self.new.names c (table_of self.new).world (table_of self.new).flights }
@@ -93,7 +93,7 @@ impl Engine {
         ensures early { TellsEarly self.old.limits (world_of self.old) request.now result }
         ensures tellable { IsTellable result }
         ensures limits { self.new.limits ≡ self.old.limits }
-        ensures goes { Goes D.Disk (is_fault result ≡ true) self.old self.new disk.old disk.new }
+        ensures goes { EngineGoesOn D.Disk (is_fault result ≡ true) self.old self.new disk.old disk.new }
     {
         match request {
             Request::New { timeout } => self.begin(disk, now, *timeout),

@@ -7,7 +7,7 @@ ghost use Rattle.txn_engine.specs.Damage.{is_damage};
 ghost use Rattle.txn_engine.specs.Faults.{fault_name, RoseByName};
 ghost use Rattle.txn_engine.specs.Refusals.{begun_reply, added_reply};
 ghost use Rattle.txn_engine.specs.Table.{world_of};
-ghost use Rattle.txn_engine.specs.Told.{MayTell, IsTellable, Goes, MayTellOn};
+ghost use Rattle.txn_engine.specs.Told.{MayTell, IsTellable, EngineGoesOn, MayTellOn};
 ghost use Rattle.txn_engine.specs.View.{IsWhole, IsTied, IsBacked};
 ghost use Rattle.txn_model.specs.EarlyRows.{is_bad_timeout};
 ghost use Rattle.txn_model.specs.Replies.{is_fault};
@@ -32,7 +32,7 @@ impl Engine {
         ensures undamaged { is_damage result ≡ false }
         ensures named { IfSome (fault_name result) (RoseByName self.old.names (RoseIn D.Disk disk.old disk.new)) }
         ensures limits { self.new.limits ≡ self.old.limits }
-        ensures goes { Goes D.Disk (is_fault result ≡ true) self.old self.new disk.old disk.new }
+        ensures goes { EngineGoesOn D.Disk (is_fault result ≡ true) self.old self.new disk.old disk.new }
     {
         self.latest = self.latest.max(now.min(LAST));
         if is_bad_timeout(timeout) {
@@ -57,7 +57,7 @@ impl Engine {
         ensures undamaged { is_damage result ≡ false }
         ensures named { IfSome (fault_name result) (RoseByName self.old.names (RoseIn D.Disk disk.old disk.new)) }
         ensures limits { self.new.limits ≡ self.old.limits }
-        ensures goes { Goes D.Disk (is_fault result ≡ true) self.old self.new disk.old disk.new }
+        ensures goes { EngineGoesOn D.Disk (is_fault result ≡ true) self.old self.new disk.old disk.new }
     {
         let Some(number) = part_of(&self.names, part) else {
             return unknown_part(part);

@@ -6,24 +6,24 @@ ghost use Rattle.txn_base.specs.Disk.{Elsewhere};
 ghost use Rattle.txn_base.specs.Moves.{After, FaultsIn, RoseIn};
 ghost use Rattle.txn_base.specs.declared.reply.Reply.TheVariants as reply;
 ghost use Rattle.txn_base.specs.declared.reply.Why.TheVariants as why;
-ghost use Rattle.txn_buffer.specs.View.{TopicView, IsFrontOf, batch_of, with_entries, fenced};
+ghost use Rattle.txn_buffer.specs.View.{TopicView, IsFrontOf, topic_batch, with_entries, with_failed_entries};
 ghost use Rattle.txn_ledger.specs.Ledger.{StandsIn, IsFile};
-ghost use Rattle.txn_records.specs.Topics.{marker_of as marker_entry};
+ghost use Rattle.txn_records.specs.Topics.{marker_entry};
 ghost use Rattle.txn_engine.specs.Causes.{TellsEarly};
 ghost use Rattle.txn_engine.specs.Damage.{is_damage};
-ghost use Rattle.txn_engine.specs.Ending.{end_of, IsSameBut, AreReady, IsReady, AreMarked, IsElsewhere, IsTellableEnd, IsGranted};
+ghost use Rattle.txn_engine.specs.Ending.{end_request, IsSameBut, AreReady, IsReady, AreMarked, IsElsewhere, IsTellableEnd, IsGranted};
 ghost use Rattle.txn_engine.specs.Faults.{stuck_name, fault_name, RoseByName};
 ghost use Rattle.txn_engine.specs.Kept.{IsEngine};
 ghost use Rattle.txn_engine.specs.Refusals.{coord_refusal};
 ghost use Rattle.txn_engine.specs.Table.{table_of, world_of};
-ghost use Rattle.txn_engine.specs.Told.{IsTellable, Goes, MayTellOn};
+ghost use Rattle.txn_engine.specs.Told.{IsTellable, EngineGoesOn, MayTellOn};
 ghost use Rattle.txn_engine.specs.View.{IsWhole, IsTied, IsBacked};
 ghost use Rattle.txn_model.specs.Coord.{decision_of, closing_of, parts_of, closed, deciding};
 ghost use Rattle.txn_model.specs.Deadlines.{is_closed};
 ghost use Rattle.txn_model.specs.Drive.{MarksAll, StopsWithin, Drives};
 ghost use Rattle.txn_model.specs.Replies.{is_fault, is_stopped};
 ghost use Rattle.txn_model.specs.Skeletons.{coord_skeletons, topic_skeletons};
-ghost use Rattle.txn_model.specs.Table.{marker_batch, marked, fenced_by, decision_batch, closing_batch, settled as with_batch};
+ghost use Rattle.txn_model.specs.Table.{marker_batch, marked, with_failed_batch, decision_batch, closing_batch, with_batch};
 ghost use Rattle.txn_model.specs.Topic.{marker_of};
 ghost use Rattle.txn_model.specs.World.{part_skeletons};
 
@@ -47,13 +47,13 @@ impl Engine {
     pub(crate) fn end<D: Disk>(&mut self, disk: &mut D, txn: TxnId, decision: Decision) -> Reply
         requires whole { IsWhole self.old }
         requires backed { IsBacked (D.image disk.old) self.old }
-        ensures told { D.tells → IsTied self.old → (now : ℕ) → MayTellOn D.Disk disk.old disk.new self.old (end_of decision txn) now result self.new }
+        ensures told { D.tells → IsTied self.old → (now : ℕ) → MayTellOn D.Disk disk.old disk.new self.old (end_request decision txn) now result self.new }
         ensures tellable { IsTellable result }
-        ensures early { TellsEarly self.old.limits (world_of self.old) (end_of decision txn) result }
+        ensures early { TellsEarly self.old.limits (world_of self.old) (end_request decision txn) result }
         ensures undamaged { is_damage result ≡ false }
         ensures named { IfSome (fault_name result) (RoseByName self.old.names (RoseIn D.Disk disk.old disk.new)) }
         ensures limits { self.new.limits ≡ self.old.limits }
-        ensures goes { Goes D.Disk (is_fault result ≡ true) self.old self.new disk.old disk.new }
+        ensures goes { EngineGoesOn D.Disk (is_fault result ≡ true) self.old self.new disk.old disk.new }
     {
         if txn.most != 0 {
             return Reply::No(Refusal::UnknownCoordinator { number: txn.most });
@@ -80,12 +80,12 @@ impl Engine {
         requires ready { IsReady txn self.old }
         requires whole { IsWhole self.old }
         requires backed { IsBacked (D.image disk.old) self.old }
-        ensures told { D.tells → IsTied self.old → (now : ℕ) → MayTellOn D.Disk disk.old disk.new self.old (end_of decision txn) now result self.new }
+        ensures told { D.tells → IsTied self.old → (now : ℕ) → MayTellOn D.Disk disk.old disk.new self.old (end_request decision txn) now result self.new }
         ensures tellable { IsTellable result }
         ensures undamaged { is_damage result ≡ false }
         ensures named { IfSome (fault_name result) (RoseByName self.old.names (RoseIn D.Disk disk.old disk.new)) }
         ensures limits { self.new.limits ≡ self.old.limits }
-        ensures goes { Goes D.Disk (is_fault result ≡ true) self.old self.new disk.old disk.new }
+        ensures goes { EngineGoesOn D.Disk (is_fault result ≡ true) self.old self.new disk.old disk.new }
     {
         match self.decide(disk, txn, decision) {
             Ok(_) => Reply::Ended {
@@ -106,15 +106,15 @@ impl Engine {
         requires own { txn.most ≡ 0 }
         requires whole { IsWhole self.old }
         requires backed { IsBacked (D.image disk.old) self.old }
-        ensures refused { D.tells → IsTied self.old → IfErr result (λ e. (now : ℕ) → MayTellOn D.Disk disk.old disk.new self.old (end_of decision txn) now (reply.No (coord_refusal e)) self.new) }
-        ensures granted { D.tells → IsTied self.old → OnOk result (IsGranted self.old.limits (table_of self.old) (end_of decision txn)) }
+        ensures refused { D.tells → IsTied self.old → IfErr result (λ e. (now : ℕ) → MayTellOn D.Disk disk.old disk.new self.old (end_request decision txn) now (reply.No (coord_refusal e)) self.new) }
+        ensures granted { D.tells → IsTied self.old → OnOk result (IsGranted self.old.limits (table_of self.old) (end_request decision txn)) }
         ensures settled { D.tells → IsTied self.old → OnOk result (table_of self.new ≡ with_batch (decision_batch (table_of self.old) txn decision) (table_of self.old)) }
         ensures rose { result ≡ Err CoordError.Fault → RoseIn D.Disk disk.old disk.new 0 }
         ensures decided { OnOk result (decision_of (coord_skeletons self.new.coord.front) txn ≡ Some decision) }
         ensures whole { OnOk result (IsWhole self.new) }
         ensures ready { IsReady txn self.old → OnOk result (IsReady txn self.new) }
         ensures limits { self.new.limits ≡ self.old.limits }
-        ensures goes { Goes D.Disk (result ≡ Err CoordError.Fault) self.old self.new disk.old disk.new }
+        ensures goes { EngineGoesOn D.Disk (result ≡ Err CoordError.Fault) self.old self.new disk.old disk.new }
     {
         self.coordinator.decide(disk, txn, decision)
     }
@@ -136,7 +136,7 @@ impl Engine {
         ensures tellable { IsTellableEnd result }
         ensures named { IfSome (stuck_name result.stuck) (RoseByName self.old.names (RoseIn D.Disk disk.old disk.new)) }
         ensures limits { self.new.limits ≡ self.old.limits }
-        ensures goes { Goes D.Disk (is_stopped result.stuck ≡ true) self.old self.new disk.old disk.new }
+        ensures goes { EngineGoesOn D.Disk (is_stopped result.stuck ≡ true) self.old self.new disk.old disk.new }
     {
         if self.is_closed(txn) {
             return Outcome {
@@ -165,10 +165,10 @@ impl Engine {
         requires whole { IsWhole self.old }
         requires backed { IsBacked (D.image disk.old) self.old }
         ensures ok { (d : Decision) → decision_of (coord_skeletons self.old.coord.front) txn ≡ Some d → D.tells → IsTied self.old → OnOk result (table_of self.new ≡ with_batch (closing_batch txn d) (table_of self.old)) }
-        ensures err { (d : Decision) → decision_of (coord_skeletons self.old.coord.front) txn ≡ Some d → D.tells → IsTied self.old → OnErr result (table_of self.new ≡ fenced_by (closing_batch txn d) 0 (table_of self.old)) }
+        ensures err { (d : Decision) → decision_of (coord_skeletons self.old.coord.front) txn ≡ Some d → D.tells → IsTied self.old → OnErr result (table_of self.new ≡ with_failed_batch (closing_batch txn d) 0 (table_of self.old)) }
         ensures rose { OnErr result (RoseIn D.Disk disk.old disk.new 0) }
         ensures limits { self.new.limits ≡ self.old.limits }
-        ensures goes { Goes D.Disk (IsErr result) self.old self.new disk.old disk.new }
+        ensures goes { EngineGoesOn D.Disk (IsErr result) self.old self.new disk.old disk.new }
     {
         self.coordinator.close(disk, txn)
     }
@@ -192,7 +192,7 @@ impl Engine {
         ensures coord { self.new.coord ≡ self.old.coord }
         ensures marked { OnOk result (AreMarked txn self.new (length self.new.topics)) }
         ensures limits { self.new.limits ≡ self.old.limits }
-        ensures goes { Goes D.Disk (IsErr result) self.old self.new disk.old disk.new }
+        ensures goes { EngineGoesOn D.Disk (IsErr result) self.old self.new disk.old disk.new }
     {
         let parts = self.coordinator.parts(txn);
         let mut at = 0;
@@ -219,11 +219,11 @@ impl Engine {
         requires whole { IsWhole self.old }
         requires backed { IsBacked (D.image disk.old) self.old }
         ensures ok { D.tells → IsTied self.old → OnOk result (table_of self.new ≡ marked txn decision (1 + at) (table_of self.old)) }
-        ensures err { D.tells → IsTied self.old → OnErr result ((is_none (marker_of (part_skeletons (table_of self.old).world (1 + at)) txn) ≡ true) × (table_of self.new ≡ fenced_by (marker_batch (table_of self.old) txn decision (1 + at)) (1 + at) (table_of self.old))) }
+        ensures err { D.tells → IsTied self.old → OnErr result ((is_none (marker_of (part_skeletons (table_of self.old).world (1 + at)) txn) ≡ true) × (table_of self.new ≡ with_failed_batch (marker_batch (table_of self.old) txn decision (1 + at)) (1 + at) (table_of self.old))) }
         ensures rose { OnErr result (RoseIn D.Disk disk.old disk.new (1 + at)) }
         ensures marked { OnOk result ((t : TopicView) → is_some (marker_of (topic_skeletons (slice_index_or self.new.topics at t).front) txn) ≡ true) }
         ensures elsewhere { IsElsewhere at self.old self.new }
-        ensures goes { Goes D.Disk (IsErr result) self.old self.new disk.old disk.new }
+        ensures goes { EngineGoesOn D.Disk (IsErr result) self.old self.new disk.old disk.new }
     {
         mark_topic(&mut self.topics[at], disk, txn, decision)
     }
@@ -279,10 +279,10 @@ fn mark_topic<D: Disk>(
     ensures stood { is_some (marker_of (topic_skeletons topic.old.front) txn) ≡ true → IsOk result × (topic.new ≡ topic.old) × (disk.new ≡ disk.old) }
     ensures ok { OnOk result (marker_of (topic_skeletons topic.old.front) txn ≡ None → topic.new ≡ with_entries topic.old (marker_entry txn decision ∷ []) 0) }
     ensures stands { OnOk result (is_some (marker_of (topic_skeletons topic.new.front) txn) ≡ true) }
-    ensures err { OnErr result ((marker_of (topic_skeletons topic.old.front) txn ≡ None) × (topic.new ≡ fenced topic.old (marker_entry txn decision ∷ []))) }
+    ensures err { OnErr result ((marker_of (topic_skeletons topic.old.front) txn ≡ None) × (topic.new ≡ with_failed_entries topic.old (marker_entry txn decision ∷ []))) }
     ensures tied { IsFrontOf topic.old → IsFrontOf topic.new }
     ensures backed { Backed StandsIn (D.image disk.new) topic.new.content }
-    ensures images { After D.Disk (Appends IsFile StandsIn topic.old.content (batch_of (marker_entry txn decision ∷ []))) disk.old disk.new }
+    ensures images { After D.Disk (Appends IsFile StandsIn topic.old.content (topic_batch (marker_entry txn decision ∷ []))) disk.old disk.new }
     ensures others { Elsewhere topic.old.content.key (D.seen disk.old) (D.seen disk.new) }
     ensures cause { FaultsIn D.Disk topic.old.content.key.part disk.old disk.new (IsErr result) }
 {

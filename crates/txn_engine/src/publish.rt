@@ -8,7 +8,7 @@ ghost use Rattle.txn_base.specs.Disk.{Elsewhere};
 ghost use Rattle.txn_base.specs.Moves.{FaultsIn, RoseIn, After};
 ghost use Rattle.txn_base.specs.declared.request.Request.TheVariants as request;
 ghost use Rattle.txn_buffer.specs.Adding.{AreBodies, messages_of, IsUnmarked};
-ghost use Rattle.txn_buffer.specs.View.{IsFrontOf, batch_of, total_of, with_entries, fenced};
+ghost use Rattle.txn_buffer.specs.View.{IsFrontOf, topic_batch, topic_total, with_entries, with_failed_entries};
 ghost use Rattle.txn_ledger.specs.Ledger.{StandsIn, IsFile};
 ghost use Rattle.std.specs.Prelude.{◌-◌, slice_index_or};
 ghost use Rattle.txn_buffer.specs.View.{TopicView};
@@ -18,7 +18,7 @@ ghost use Rattle.txn_engine.specs.Faults.{fault_name, RoseByName};
 ghost use Rattle.txn_engine.specs.Publishing.{foreign, why_not_in, why_refusal, publish_reply};
 ghost use Rattle.txn_model.specs.Skeletons.{coord_skeletons, topic_skeletons};
 ghost use Rattle.txn_engine.specs.Table.{world_of};
-ghost use Rattle.txn_engine.specs.Told.{IsTellable, Goes, MayTellOn};
+ghost use Rattle.txn_engine.specs.Told.{IsTellable, EngineGoesOn, MayTellOn};
 ghost use Rattle.txn_engine.specs.View.{IsWhole, IsTied, IsBacked};
 ghost use Rattle.txn_model.specs.EarlyRows.{are_too_big};
 ghost use Rattle.txn_model.specs.Replies.{is_fault};
@@ -48,7 +48,7 @@ impl Engine {
         ensures undamaged { is_damage result ≡ false }
         ensures named { IfSome (fault_name result) (RoseByName self.old.names (RoseIn D.Disk disk.old disk.new)) }
         ensures limits { self.new.limits ≡ self.old.limits }
-        ensures goes { Goes D.Disk (is_fault result ≡ true) self.old self.new disk.old disk.new }
+        ensures goes { EngineGoesOn D.Disk (is_fault result ≡ true) self.old self.new disk.old disk.new }
     {
         let Some(number) = part_of(&self.names, topic) else {
             return unknown_part(topic);
@@ -167,17 +167,17 @@ fn add_messages<D: Disk>(
     requires unmarked { IsUnmarked topic.old.front txn }
     requires bodies { AreBodies topic.old.limits (contents_of bodies.now) }
     requires backed { Backed StandsIn (D.image disk.old) topic.old.content }
-    ensures first { IfOk result (λ place. place ≡ total_of topic.old) }
+    ensures first { IfOk result (λ place. place ≡ topic_total topic.old) }
     ensures ok { OnOk result (topic.new ≡ with_entries topic.old (messages_of txn (contents_of bodies.now)) topic.old.reserved) }
-    ensures full { (result ≡ Err (TopicError.Full (total_of topic.old))) ↔ (topic.old.limits.log < total_of topic.old + length bodies.now) }
-    ensures count { (count : ℕ) → result ≡ Err (TopicError.Full count) → count ≡ total_of topic.old }
+    ensures full { (result ≡ Err (TopicError.Full (topic_total topic.old))) ↔ (topic.old.limits.log < topic_total topic.old + length bodies.now) }
+    ensures count { (count : ℕ) → result ≡ Err (TopicError.Full count) → count ≡ topic_total topic.old }
     ensures not_damaged { (place : ℕ) → result ≡ Err (TopicError.Damaged place) → ⊥ }
-    ensures fault { result ≡ Err TopicError.Fault → topic.new ≡ fenced topic.old (messages_of txn (contents_of bodies.now)) }
+    ensures fault { result ≡ Err TopicError.Fault → topic.new ≡ with_failed_entries topic.old (messages_of txn (contents_of bodies.now)) }
     ensures refused { (count : ℕ) → result ≡ Err (TopicError.Full count) → (topic.new ≡ topic.old) × (disk.new ≡ disk.old) }
     ensures no_memory { result ≡ Err TopicError.NoMemory → (topic.new ≡ topic.old) × (disk.new ≡ disk.old) }
     ensures tied { IsFrontOf topic.old → IsFrontOf topic.new }
     ensures backed { Backed StandsIn (D.image disk.new) topic.new.content }
-    ensures images { After D.Disk (Appends IsFile StandsIn topic.old.content (batch_of (messages_of txn (contents_of bodies.now)))) disk.old disk.new }
+    ensures images { After D.Disk (Appends IsFile StandsIn topic.old.content (topic_batch (messages_of txn (contents_of bodies.now)))) disk.old disk.new }
     ensures others { Elsewhere topic.old.content.key (D.seen disk.old) (D.seen disk.new) }
     ensures cause { FaultsIn D.Disk topic.old.content.key.part disk.old disk.new (result ≡ Err TopicError.Fault) }
 {

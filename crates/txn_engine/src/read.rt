@@ -8,7 +8,7 @@ ghost use Rattle.txn_engine.specs.Causes.{TellsEarly};
 ghost use Rattle.txn_engine.specs.Damage.{IsDamageIn};
 ghost use Rattle.txn_engine.specs.Faults.{fault_name, RoseByName};
 ghost use Rattle.txn_engine.specs.Table.{world_of};
-ghost use Rattle.txn_engine.specs.Told.{IsTellable, Goes, MayTellOn};
+ghost use Rattle.txn_engine.specs.Told.{IsTellable, EngineGoesOn, MayTellOn};
 ghost use Rattle.txn_engine.specs.View.{IsWhole, IsTied, IsBacked};
 ghost use Rattle.txn_model.specs.Replies.{is_fault};
 
@@ -36,7 +36,7 @@ impl Engine {
         ensures early { TellsEarly self.now.limits (world_of self.now) (request.Read topic.now first max) result }
         ensures damaged { (part : List ℕ) (place : ℕ) → result ≡ reply.No (no.Damaged part place) → IsDamageIn D.tells self.now (request.Read topic.now first max) part place }
         ensures named { IfSome (fault_name result) (RoseByName self.now.names (RoseIn D.Disk disk.old disk.new)) }
-        ensures goes { Goes D.Disk (is_fault result ≡ true) self.now self.now disk.old disk.new }
+        ensures goes { EngineGoesOn D.Disk (is_fault result ≡ true) self.now self.now disk.old disk.new }
     {
         let Some(number) = part_of(&self.names, topic) else {
             return unknown_part(topic);

@@ -1,6 +1,6 @@
 //! The real files of a folder. Here the disk model is made true as far as it can.
 use crate::file::{Purpose, open};
-use crate::folder::{Standing, held, looked, made};
+use crate::folder::{FolderState, held, looked, made};
 use crate::open_files::OpenFiles;
 use crate::read_ahead::ReadAhead;
 use std::alloc::{AllocError, Global};
@@ -20,7 +20,7 @@ pub struct FolderFiles<R: Files<File = File> + Drop> {
     files: R,
     path: Text,
     purpose: Purpose,
-    standing: Standing,
+    standing: FolderState,
     opened: OpenFiles,
     ahead: ReadAhead,
 }
@@ -39,7 +39,7 @@ impl<R: Files<File = File> + Drop> FolderFiles<R> {
             files,
             path,
             purpose,
-            standing: Standing::NotAsked,
+            standing: FolderState::NotAsked,
             opened: OpenFiles::new(alloc, bound)?,
             ahead: ReadAhead::new(alloc),
         })
@@ -47,16 +47,16 @@ impl<R: Files<File = File> + Drop> FolderFiles<R> {
 
     /// Looks at the folder, once. Whether it is there.
     fn is_there(&mut self) -> io::Result<bool> {
-        if let Standing::NotAsked = &self.standing {
-            self.standing = Standing::Lost;
+        if let FolderState::NotAsked = &self.standing {
+            self.standing = FolderState::Lost;
             self.standing = match self.purpose {
                 Purpose::Reading => looked(&self.files, self.path.as_str())?,
                 _ => held(&self.files, self.path.as_str())?,
             };
         }
         match &self.standing {
-            Standing::Held(_) | Standing::Looked => Ok(true),
-            Standing::Missing => Ok(false),
+            FolderState::Held(_) | FolderState::Looked => Ok(true),
+            FolderState::Missing => Ok(false),
             _ => Err(ErrorKind::WouldBlock.into()),
         }
     }
@@ -69,7 +69,7 @@ impl<R: Files<File = File> + Drop> FolderFiles<R> {
         if self.is_there()? {
             return Ok(());
         }
-        self.standing = Standing::Lost;
+        self.standing = FolderState::Lost;
         self.standing = made(&self.files, self.path.as_str())?;
         Ok(())
     }
@@ -96,7 +96,7 @@ impl<R: Files<File = File> + Drop> FolderFiles<R> {
             return Err(ErrorKind::NotFound.into());
         }
         if let Err(e) = self.sync_folder() {
-            self.standing = Standing::Lost;
+            self.standing = FolderState::Lost;
             return Err(e);
         }
         Ok(())
@@ -115,7 +115,7 @@ impl<R: Files<File = File> + Drop> FolderFiles<R> {
 
     fn sync_folder(&self) -> io::Result<()> {
         match &self.standing {
-            Standing::Held(folder) => folder.sync_all(),
+            FolderState::Held(folder) => folder.sync_all(),
             _ => Err(ErrorKind::NotFound.into()),
         }
     }

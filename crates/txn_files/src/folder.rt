@@ -6,7 +6,7 @@ use std::{fs, io};
 
 /// What is known of a folder. The first call of the disk looks at it.
 #[derive(Drop)]
-pub enum Standing {
+pub enum FolderState {
     NotAsked,
     /// It wasn't there, so each of its files counts as empty.
     Missing,
@@ -20,7 +20,7 @@ pub enum Standing {
 
 /// Opens a folder and locks it. `Missing` where there is none. The names in it are brought to the disk, and its own name
 /// where its parent allows it: a program that was stopped before it had done so may have made the folder, or a file there.
-pub fn held<R: Files<File = File>>(files: &R, path: &str) -> io::Result<Standing> {
+pub fn held<R: Files<File = File>>(files: &R, path: &str) -> io::Result<FolderState> {
     match locked(files, path)? {
         Some(folder) => {
             folder.sync_all()?;
@@ -28,17 +28,17 @@ pub fn held<R: Files<File = File>>(files: &R, path: &str) -> io::Result<Standing
                 Ok(parent) => pass_over(parent.sync_all())?,
                 Err(e) => pass_over(Err(e))?,
             }
-            Ok(Standing::Held(folder))
+            Ok(FolderState::Held(folder))
         }
-        None => Ok(Standing::Missing),
+        None => Ok(FolderState::Missing),
     }
 }
 
 /// Looks whether a folder is there. It isn't locked, and nothing is brought to the disk.
-pub fn looked<R: Files<File = File>>(files: &R, path: &str) -> io::Result<Standing> {
+pub fn looked<R: Files<File = File>>(files: &R, path: &str) -> io::Result<FolderState> {
     match File::open(files, path) {
-        Ok(_) => Ok(Standing::Looked),
-        Err(e) if e.kind() == ErrorKind::NotFound => Ok(Standing::Missing),
+        Ok(_) => Ok(FolderState::Looked),
+        Err(e) if e.kind() == ErrorKind::NotFound => Ok(FolderState::Missing),
         Err(e) => Err(e),
     }
 }
@@ -46,12 +46,12 @@ pub fn looked<R: Files<File = File>>(files: &R, path: &str) -> io::Result<Standi
 /// Makes a folder that was missing, locks it, and brings its name to the disk. One that is there by now was made by
 /// another program since, whose files were taken for empty: that is an error. Where the name can't be brought to the disk
 /// the folder is taken away again, so that no later run takes it for one that was always there.
-pub fn made<R: Files<File = File>>(files: &R, path: &str) -> io::Result<Standing> {
+pub fn made<R: Files<File = File>>(files: &R, path: &str) -> io::Result<FolderState> {
     let parent = parent(files, path)?;
     fs::create_dir(files, path)?;
     match locked(files, path)? {
         Some(folder) => match parent.sync_all() {
-            Ok(()) => Ok(Standing::Held(folder)),
+            Ok(()) => Ok(FolderState::Held(folder)),
             Err(e) => {
                 let _ = fs::remove_dir(files, path);
                 Err(e)

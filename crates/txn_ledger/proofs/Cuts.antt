@@ -9,7 +9,7 @@ use Rattle.byteorder.specs.Numbers.{big_number-reads_back, length-bytes_high_fir
 use Rattle.txn_base.specs.Frames.{Record, Batch, IsRecord, IsBatch, record_bytes, body_of}
 use Rattle.txn_base.proofs.Laws.{counted_one, body_long}
 use Rattle.txn_ledger.specs.declared.position.Position.{Position}
-use Rattle.txn_ledger.specs.Bodies.{first_of, behind_first, batch_from, batch_in}
+use Rattle.txn_ledger.specs.Bodies.{first_record, behind_first, batch_from, batch_in}
 use Rattle.txn_ledger.specs.Positions.{positions_of}
 
 -- a batch's body is cut into that batch
@@ -26,7 +26,7 @@ cut_from (x ∷ batch) (suc more) each enough =
     let small : length x < 256 ^ 2 = (let less = is_record.no_longer in omega arith) in
     let len : big_number 2 body ≡ length x = ap (λ (l : List ℕ). big_number 2 l) whole ∙ big_number-reads_back 2 (length x) (x ++ body_of batch) small in
     let behind : drop 2 body ≡ x ++ body_of batch = ap (λ (l : List ℕ). drop 2 l) whole ∙ drop_at head (x ++ body_of batch) 2 two in
-    let first : first_of body ≡ x = ap (λ (n : ℕ). take n (drop 2 body)) len ∙ ap (λ (l : List ℕ). take (length x) l) behind ∙ take_at x (body_of batch) (length x) refl in
+    let first : first_record body ≡ x = ap (λ (n : ℕ). take n (drop 2 body)) len ∙ ap (λ (l : List ℕ). take (length x) l) behind ∙ take_at x (body_of batch) (length x) refl in
     let rest : behind_first body ≡ body_of batch = ap (λ (n : ℕ). drop n (drop 2 body)) len ∙ ap (λ (l : List ℕ). drop (length x) l) behind ∙ drop_at x (body_of batch) (length x) refl in
     let enough : length (body_of batch) ≤ more = omega (arith, enough, ap length whole, two, length-append head (x ++ body_of batch), length-append x (body_of batch)) in
     ap (λ (r : Record). r ∷ batch_from more (behind_first body)) first

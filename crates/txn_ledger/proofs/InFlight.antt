@@ -9,11 +9,11 @@ use Rattle.txn_ledger.proofs.Behind.{shut_gate}
 use Rattle.txn_ledger.proofs.Frames.{frames-push, cut_is, closed_of_stands}
 
 -- such a frame stands behind the end
-abbrev pub IsWhole : ℕ → ℕ → List ℕ → Type 0
-IsWhole end sent bytes = (end + sent ≤ length bytes) × (get_or bytes end 0 ≡ 1)
+abbrev pub IsFrameThere : ℕ → ℕ → List ℕ → Type 0
+IsFrameThere end sent bytes = (end + sent ≤ length bytes) × (get_or bytes end 0 ≡ 1)
 
 module _ (batches : List Batch) (end sent : ℕ) (ends : end ≡ length (frames batches)) where
-  kept_one : (flight : Batch) → IsBatch flight → sent ≡ length (frame flight) → (x : List ℕ) → Stands x batches ⊎ Stands x (batches ++ flight ∷ []) → IsWhole end sent x → Stands x (batches ++ flight ∷ [])
+  kept_one : (flight : Batch) → IsBatch flight → sent ≡ length (frame flight) → (x : List ℕ) → Stands x batches ⊎ Stands x (batches ++ flight ∷ []) → IsFrameThere end sent x → Stands x (batches ++ flight ∷ [])
   kept_one flight is sent_is x either whole = elim either [
     | inl stands ↦
         let long : end < length x = omega (arith, whole.0, sent_is) in
@@ -21,7 +21,7 @@ module _ (batches : List Batch) (end sent : ℕ) (ends : end ≡ length (frames 
     | inr more ↦ more
   ]
 
-  sent_whole : (flight : Batch) → sent ≡ length (frame flight) → (x : List ℕ) → Stands x (batches ++ flight ∷ []) → IsWhole end sent x
+  sent_whole : (flight : Batch) → sent ≡ length (frame flight) → (x : List ℕ) → Stands x (batches ++ flight ∷ []) → IsFrameThere end sent x
   sent_whole flight sent_is x stands =
       let split : x ≡ frames batches ++ (frame flight ++ stands.rest) =
       stands.split ∙ ap (λ (l : List ℕ). l ++ stands.rest) (frames-push batches flight) ∙ append_assoc (frames batches) (frame flight) stands.rest in
@@ -31,12 +31,12 @@ module _ (batches : List Batch) (end sent : ℕ) (ends : end ≡ length (frames 
       let gate : get_or x end 0 ≡ 1 = ap (λ (n : ℕ). get_or x n 0) (sym at) ∙ sym (get_or-drop end x 0 0) ∙ ap (λ (l : List ℕ). get_or l 0 0) behind in
       (long, gate)
 
-  pub kept_stands : (standing : Standing) → IsInFlight standing → IsSent standing sent → (x : List ℕ) → KeptOrNot (Stands x) batches standing → IsWhole end sent x → Stands x (with_flight batches standing)
+  pub kept_stands : (standing : Standing) → IsInFlight standing → IsSent standing sent → (x : List ℕ) → KeptOrNot (Stands x) batches standing → IsFrameThere end sent x → Stands x (with_flight batches standing)
   kept_stands settled none is x either whole = absurd none
   kept_stands looked_at none is x either whole = absurd none
   kept_stands (in_flight flight) some is x either whole = kept_one flight is.0 is.1 x either whole
 
-  pub dropped_stands : (standing : Standing) → IsInFlight standing → IsSent standing sent → (x : List ℕ) → KeptOrNot (Stands x) batches standing → (IsWhole end sent x → ⊥) → Stands x batches
+  pub dropped_stands : (standing : Standing) → IsInFlight standing → IsSent standing sent → (x : List ℕ) → KeptOrNot (Stands x) batches standing → (IsFrameThere end sent x → ⊥) → Stands x batches
   dropped_stands settled none is x either not_whole = absurd none
   dropped_stands looked_at none is x either not_whole = absurd none
   dropped_stands (in_flight flight) some is x either not_whole = ⊎_elim (λ none. none) (λ all. absurd (not_whole (sent_whole flight is.1 x all))) either

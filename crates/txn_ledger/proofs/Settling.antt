@@ -11,14 +11,14 @@ use Rattle.txn_ledger.specs.Ledger.{IsFile, StandsIn}
 use Rattle.txn_ledger.specs.Tied.{IsSent}
 use Rattle.txn_ledger.proofs.Chain.{same_on}
 use Rattle.txn_ledger.proofs.Frames.{cut_is, only_frames}
-use Rattle.txn_ledger.proofs.InFlight.{IsWhole, kept_stands, dropped_stands, without, within, kept_ends, cut_stands}
+use Rattle.txn_ledger.proofs.InFlight.{IsFrameThere, kept_stands, dropped_stands, without, within, kept_ends, cut_stands}
 
 module _ (content : LedgerContent) (end sent : ℕ) (ends : end ≡ length (frames content.batches)) (doubt : IsInFlight content.standing) (is_sent : IsSent content.standing sent) where
   -- as it reads
-  pub read_kept : (x : List ℕ) → KeptOrNot (Stands x) content.batches content.standing → IsWhole end sent x → Stands x (kept content).batches
+  pub read_kept : (x : List ℕ) → KeptOrNot (Stands x) content.batches content.standing → IsFrameThere end sent x → Stands x (kept content).batches
   read_kept x either whole = kept_stands content.batches end sent ends content.standing doubt is_sent x either whole
 
-  pub read_dropped : (x : List ℕ) → KeptOrNot (Stands x) content.batches content.standing → (IsWhole end sent x → ⊥) → Stands x (dropped content).batches
+  pub read_dropped : (x : List ℕ) → KeptOrNot (Stands x) content.batches content.standing → (IsFrameThere end sent x → ⊥) → Stands x (dropped content).batches
   read_dropped x either not_whole = dropped_stands content.batches end sent ends content.standing doubt is_sent x either not_whole
 
   -- cut behind what counts, or no longer than that, a file is just these frames
@@ -52,11 +52,11 @@ module _ (content : LedgerContent) (end sent : ℕ) (ends : end ≡ length (fram
     read_so P so e at = let f = looking.at_end e at in subst P (sym (durable f.0 f.1) ∙ ap (λ (c : Files). c file) (sym f.2) ∙ ap e is) (so (image_is_told mid e at))
 
     -- where it is whole on the disk
-    pub kept_backed : (on.tells → IsWhole end sent bytes) → Backed StandsIn (on.image mid) (kept content)
-    kept_backed whole = record { each = λ c at. read_kept (c content.key) (same_backed.each c at) (read_so (λ (x : List ℕ). IsWhole end sent x) whole c at) }
+    pub kept_backed : (on.tells → IsFrameThere end sent bytes) → Backed StandsIn (on.image mid) (kept content)
+    kept_backed whole = record { each = λ c at. read_kept (c content.key) (same_backed.each c at) (read_so (λ (x : List ℕ). IsFrameThere end sent x) whole c at) }
 
     -- and where the file is then cut behind it
-    module _ (whole : on.tells → IsWhole end sent bytes) (new : D) (cutting : After on (Changes file (OldOrResized (end + sent))) mid new) where
+    module _ (whole : on.tells → IsFrameThere end sent bytes) (new : D) (cutting : After on (Changes file (OldOrResized (end + sent))) mid new) where
       longer_cut : After on (Changes content.key (OldOrResized (end + sent))) mid new
       longer_cut = subst (λ (f : FileId). After on (Changes f (OldOrResized (end + sent))) mid new) is cutting
 
@@ -78,13 +78,13 @@ module _ (content : LedgerContent) (end sent : ℕ) (ends : end ≡ length (fram
           (λ d e c at one mid_at two. record { here = longer_within e c mid_at two; others = λ other apart. two.others other apart ∙ one.others other apart })
 
     -- and where it isn't, and the file is cut
-    module _ (not_whole : on.tells → IsWhole end sent bytes → ⊥) (new : D) (cutting : After on (Changes file (OldOrResized end)) mid new) where
+    module _ (not_whole : on.tells → IsFrameThere end sent bytes → ⊥) (new : D) (cutting : After on (Changes file (OldOrResized end)) mid new) where
       cut_here : After on (Changes content.key (OldOrResized end)) mid new
       cut_here = subst (λ (f : FileId). After on (Changes f (OldOrResized end)) mid new) is cutting
 
       after_cut : (e c : Files) → on.image mid e → Changes content.key (OldOrResized end) e c → Stands (c content.key) content.batches
       after_cut e c at step =
-          cut_stands content.batches end sent ends (e content.key) (c content.key) (read_dropped (e content.key) (same_backed.each e at) (read_so (λ (x : List ℕ). IsWhole end sent x → ⊥) not_whole e at)) step.here
+          cut_stands content.batches end sent ends (e content.key) (c content.key) (read_dropped (e content.key) (same_backed.each e at) (read_so (λ (x : List ℕ). IsFrameThere end sent x → ⊥) not_whole e at)) step.here
 
       pub cut_backed : Backed StandsIn (on.image new) (dropped content)
       cut_backed = record { each = λ c at. let e = cut_here.at_end c at in after_cut e.0 c e.1 e.2 }

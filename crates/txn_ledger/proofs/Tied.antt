@@ -10,7 +10,7 @@ use Rattle.txn_ledger.specs.declared.position.Position.{Position}
 use Rattle.txn_ledger.specs.Positions.{positions_of, positions_in}
 use Rattle.txn_ledger.specs.declared.state.State.{State}
 use Rattle.txn_ledger.specs.declared.state.State.TheVariants.{Settled, InFlight}
-use Rattle.txn_ledger.specs.Tied.{TiedTo, IsScanned, IsSent, state_of}
+use Rattle.txn_ledger.specs.Tied.{TiedTo, IsScanned, IsSent, ledger_state}
 use Rattle.txn_ledger.proofs.Bodies.{positions-push, count_positions}
 use Rattle.txn_ledger.proofs.Frames.{frames-push, one_batch}
 
@@ -36,7 +36,7 @@ module _ (content : LedgerContent) (file : FileId) (end sent count : ℕ) (state
     pub tied_landed : (next : LedgerContent) → next ≡ landed content batch → (next_end next_count : ℕ) → next_end ≡ end + length (frame batch) → next_end ≤ 2 ^ 50 → next_count ≡ length next_positions
         → TiedTo next file next_end sent next_count state next_positions
     tied_landed next is next_end next_count ends bound counts = subst (λ (s : LedgerContent). TiedTo s file next_end sent next_count state next_positions) (sym is)
-        (with_one content.key content.batches batch end file next_end sent next_count state next_positions tied.file_is tied.each is_batch tied.ends ends bound counts (tied.state_is ∙ ap state_of is_settled) all_positions)
+        (with_one content.key content.batches batch end file next_end sent next_count state next_positions tied.file_is tied.each is_batch tied.ends ends bound counts (tied.state_is ∙ ap ledger_state is_settled) all_positions)
 
     pub tied_begun : (next : LedgerContent) → next ≡ begun content batch → (next_sent : ℕ) → next_sent ≡ length (frame batch) → TiedTo next file end next_sent count InFlight next_positions
     tied_begun next is next_sent sent_is = subst (λ (s : LedgerContent). TiedTo s file end next_sent count InFlight next_positions) (sym is) (record {

@@ -16,10 +16,10 @@ IsSent settled sent = Unit {0}
 IsSent looked_at sent = Unit {0}
 IsSent (in_flight batch) sent = IsBatch batch × (sent ≡ length (frame batch))
 
-abbrev pub state_of : Standing → State
-state_of settled = Settled
-state_of looked_at = LookedAt
-state_of (in_flight batch) = InFlight
+abbrev pub ledger_state : Standing → State
+ledger_state settled = Settled
+ledger_state looked_at = LookedAt
+ledger_state (in_flight batch) = InFlight
 
 -- a ledger's content, its file, where the frames end, the bytes in flight, how many records are settled, how it stands,
 -- and where each record stands, those in flight too
@@ -29,7 +29,7 @@ pub record TiedTo (content : LedgerContent) (file : FileId) (end sent count : �
   pub ends : end ≡ length (frames content.batches)
   pub bound : end ≤ 2 ^ 50
   pub count_is : count ≡ length (records content.batches)
-  pub state_is : state ≡ state_of content.standing
+  pub state_is : state ≡ ledger_state content.standing
   pub sent_is : IsSent content.standing sent
   pub positions_are : positions ≡ positions_in 0 (with_flight content.batches content.standing)
 

@@ -4,7 +4,7 @@ use Rattle.std.specs.Prelude.{replicate}
 use Rattle.std.proofs.lemmas.List.{take_at, drop_at, append_assoc, length-replicate}
 use Rattle.std.proofs.lemmas.Grind.{common_steps}
 use Rattle.txn_base.specs.Disk.{Torn, overwritten, resized}
-use Rattle.txn_memdisk.specs.Change.{put_back, filled}
+use Rattle.txn_memdisk.specs.Change.{bytes_put_back, filled}
 
 -- A write is one way in which it is cut short.
 pub written_torn : (at : ℕ) (bytes old : List ℕ) → at + length bytes ≤ length old → Torn at (length bytes) old (overwritten at bytes old)
@@ -21,7 +21,7 @@ three_parts : (at n : ℕ) (x : List ℕ) → take at x ++ take n (drop at x) ++
 three_parts at n x = ap (λ (l : List ℕ). l ++ drop (at + n) x) (sym (take-add at n x)) ∙ take-append-drop (at + n) x
 
 -- What was written over is put back.
-pub puts_back : (at : ℕ) (bytes old x : List ℕ) → at + length bytes ≤ length x → old ≡ take (length bytes) (drop at x) → put_back at old (overwritten at bytes x) ≡ x
+pub puts_back : (at : ℕ) (bytes old x : List ℕ) → at + length bytes ≤ length x → old ≡ take (length bytes) (drop at x) → bytes_put_back at old (overwritten at bytes x) ≡ x
 puts_back at bytes old x fits is =
     let torn = written_torn at bytes x fits in
     let y = overwritten at bytes x in
@@ -35,7 +35,7 @@ puts_back at bytes old x fits is =
     ∙ three_parts at n x
 
 -- Where nothing was written over, nothing is put back.
-pub puts_nothing : (at : ℕ) (x : List ℕ) → put_back at [] x ≡ x
+pub puts_nothing : (at : ℕ) (x : List ℕ) → bytes_put_back at [] x ≡ x
 puts_nothing at x = grind (arith, common_steps)
 
 -- What was cut off is put back, and what was added is cut off.

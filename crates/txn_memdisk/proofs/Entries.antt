@@ -10,7 +10,7 @@ use Rattle.txn_base.specs.declared.file_id.FileId.{FileId}
 use Rattle.txn_base.specs.Disk.{same_file}
 use Rattle.txn_memdisk.specs.declared.file.MemFile.{MemFile}
 use Rattle.txn_memdisk.specs.Files.{Entry, entry_of, entry_in, nothing, updated}
-use Rattle.txn_memdisk.specs.Places.{Misses, IsAt}
+use Rattle.txn_memdisk.specs.Places.{Misses, IsFileAt}
 
 -- whether both name the same file
 abbrev pub Tells : FileId → FileId → Type 0
@@ -49,7 +49,7 @@ last_is [] next d = refl
 last_is (file ∷ files) next d = last_is files next d
 
 -- It stands at the end.
-pub push_at : (files : List MemFile) (next : MemFile) (id : FileId) → next.id ≡ id → Misses files id → IsAt (files ++ next ∷ []) (length files) id
+pub push_at : (files : List MemFile) (next : MemFile) (id : FileId) → next.id ≡ id → Misses files id → IsFileAt (files ++ next ∷ []) (length files) id
 push_at files next id e miss = record {
   file = next;
   below = omega (arith, length-append files (next ∷ []));
@@ -98,7 +98,7 @@ split_at : (files : List MemFile) (i : ℕ) (d : MemFile) → i < length files �
 split_at files i d below = sym (take-append-drop i files) ∙ ap (λ (l : List MemFile). take i files ++ l) (drop_more files i d below ∙ (λ j. get_or files i d ∷ drop (add-one i j) files))
 
 -- The file's entry is that of the file at its index.
-pub entry_at : (files : List MemFile) (i : ℕ) (id : FileId) → IsAt files i id → (d : MemFile) → entry_in files id ≡ entry_of (get_or files i d)
+pub entry_at : (files : List MemFile) (i : ℕ) (id : FileId) → IsFileAt files i id → (d : MemFile) → entry_in files id ≡ entry_of (get_or files i d)
 entry_at files i id at d =
     let front = take i files in
     let back = drop (suc i) files in
@@ -107,7 +107,7 @@ entry_at files i id at d =
     ∙ ap entry_of (get_or_default files i at.file d at.below)
 
 -- The file at that index is replaced.
-pub put_at : (files : List MemFile) (i : ℕ) (key : FileId) (next : MemFile) → IsAt files i key → next.id ≡ (get_or files i next).id → (id : FileId) → entry_in (set files i next) id ≡ updated key (entry_of next) (entry_in files) id
+pub put_at : (files : List MemFile) (i : ℕ) (key : FileId) (next : MemFile) → IsFileAt files i key → next.id ≡ (get_or files i next).id → (id : FileId) → entry_in (set files i next) id ≡ updated key (entry_of next) (entry_in files) id
 put_at files i key next at named id =
     let front = take i files in
     let back = drop (suc i) files in
@@ -118,7 +118,7 @@ put_at files i key next at named id =
     ∙ ap (λ (l : List MemFile). updated key (entry_of next) (entry_in l) id) (sym (split_at files i next at.below))
 
 -- One file was found or made.
-module _ (files placed : List MemFile) (i : ℕ) (key : FileId) (same : (id : FileId) → entry_in placed id ≡ entry_in files id) (at : IsAt placed i key) (file : MemFile) (is : file ≡ get_or placed i file) where
+module _ (files placed : List MemFile) (i : ℕ) (key : FileId) (same : (id : FileId) → entry_in placed id ≡ entry_in files id) (at : IsFileAt placed i key) (file : MemFile) (is : file ≡ get_or placed i file) where
   -- its entry
   pub placed_entry : entry_of file ≡ entry_in files key
   placed_entry = ap entry_of is ∙ sym (entry_at placed i key at file) ∙ same key

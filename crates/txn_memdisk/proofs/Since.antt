@@ -10,7 +10,7 @@ use Rattle.txn_memdisk.specs.declared.disk.MemDisk.{MemDisk}
 use Rattle.txn_base.specs.declared.file_id.FileId.{FileId}
 use Rattle.txn_memdisk.specs.Files.{Entry, entry_in, IsImage, IsImageOf}
 use Rattle.txn_memdisk.specs.Past.{Past, Remembers, HadBeen}
-use Rattle.txn_memdisk.specs.Disk.{image_of, moment_of, left_of}
+use Rattle.txn_memdisk.specs.Disk.{image_of, moment_of, left_since_of}
 
 keeps : (past : Past) (v : Snapshot (Vec MemFile Global)) (c : Files) → HadBeen past c → HadBeen (past ++ v ∷ []) c
 keeps [] v c had = absurd had
@@ -30,7 +30,7 @@ newest (p ∷ past) v c is = inr (newest past v c is)
 -- the state before is remembered, and each image now comes from one of it
 pub changed : (R : Files → Files → Type 0) (old new : MemDisk) → Remembers old.files.items old.past.items new.past.items
     → ((c : Files) → image_of new c → (d : Files) × image_of old d × R d c)
-    → Since moment_of image_of left_of R old new
+    → Since moment_of image_of left_since_of R old new
 changed R old new (v, was, grown) step = record {
   time = omega (arith, ap length grown, length-append old.past.items (v ∷ []));
   at_end = step;
@@ -43,7 +43,7 @@ changed R old new (v, was, grown) step = record {
 
 -- No entry and no state before changed.
 pub unchanged : (R : Files → Files → Type 0) (old new : MemDisk) → ((c : Files) → R c c) → ((id : FileId) → entry_in new.files.items id ≡ entry_in old.files.items id) → new.past.items ≡ old.past.items
-    → Since moment_of image_of left_of R old new
+    → Since moment_of image_of left_since_of R old new
 unchanged R old new same entries past = record {
   time = omega (arith, ap length past);
   at_end = λ c at. (c, back c at, same c);

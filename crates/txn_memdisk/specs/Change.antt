@@ -8,8 +8,8 @@ use Rattle.txn_memdisk.specs.declared.change.Undo.TheVariants.{Size, Bytes}
 use Rattle.txn_memdisk.specs.declared.change.Pending.{Pending}
 
 -- Bytes stand at the offset, as far as they lie within.
-abbrev pub put_back : ℕ → List ℕ → List ℕ → List ℕ
-put_back at old bytes = take at bytes ++ take (length bytes - at) old ++ drop (at + length old) bytes
+abbrev pub bytes_put_back : ℕ → List ℕ → List ℕ → List ℕ
+bytes_put_back at old bytes = take at bytes ++ take (length bytes - at) old ++ drop (at + length old) bytes
 
 -- A range is filled with a byte, as far as it lies within.
 abbrev pub filled : ℕ → ℕ → ℕ → List ℕ → List ℕ
@@ -18,7 +18,7 @@ filled at n byte bytes = take at bytes ++ replicate (length (take n (drop at byt
 -- The bytes before a change: of the size before it and with what it cut off, or with what it wrote over.
 abbrev pub undo_one : Undo → List ℕ → List ℕ
 undo_one (Size before cut) bytes = take before bytes ++ cut.items
-undo_one (Bytes offset old) bytes = put_back offset old.items bytes
+undo_one (Bytes offset old) bytes = bytes_put_back offset old.items bytes
 
 -- The bytes before these changes, of which the last is undone first.
 abbrev pub undone : List Pending → List ℕ → List ℕ

@@ -14,8 +14,8 @@ chosen New entry = entry.seen
 chosen (Torn byte) entry = replayed byte entry.pending entry.sure
 
 -- File by file the second are what a crash makes of the first.
-abbrev pub Mirrors : Choice → List MemFile → List MemFile → Type 0
-Mirrors choice [] [] = Unit {0}
-Mirrors choice [] (y ∷ ys) = ⊥
-Mirrors choice (x ∷ xs) [] = ⊥
-Mirrors choice (x ∷ xs) (y ∷ ys) = (y.id ≡ x.id) × (entry_of y ≡ sure_entry (chosen choice (entry_of x))) × Mirrors choice xs ys
+abbrev pub AreCrashedFrom : Choice → List MemFile → List MemFile → Type 0
+AreCrashedFrom choice [] [] = Unit {0}
+AreCrashedFrom choice [] (y ∷ ys) = ⊥
+AreCrashedFrom choice (x ∷ xs) [] = ⊥
+AreCrashedFrom choice (x ∷ xs) (y ∷ ys) = (y.id ≡ x.id) × (entry_of y ≡ sure_entry (chosen choice (entry_of x))) × AreCrashedFrom choice xs ys

@@ -20,8 +20,8 @@ image_of disk = IsImage disk.files.items
 abbrev pub moment_of : MemDisk → ℕ
 moment_of disk = length disk.past.items
 
-abbrev pub left_of : MemDisk → ℕ → Files → Type 0
-left_of disk = LeftSince disk.files.items disk.past.items
+abbrev pub left_since_of : MemDisk → ℕ → Files → Type 0
+left_since_of disk = LeftSince disk.files.items disk.past.items
 
 abbrev pub faults_of : MemDisk → ℕ
 faults_of disk = disk.counts.all
@@ -36,8 +36,8 @@ abbrev pub writes_of : MemDisk → ℕ
 writes_of disk = disk.calls.writes
 
 -- of each file, what a read gives, what it held at its last sync, and the changes since
-abbrev pub entries_of : MemDisk → FileId → Entry
-entries_of disk = entry_in disk.files.items
+abbrev pub file_entries : MemDisk → FileId → Entry
+file_entries disk = entry_in disk.files.items
 
 -- the calls that are still to fail
 abbrev pub waits_of : MemDisk → List FaultAt
@@ -45,11 +45,11 @@ waits_of disk = disk.waits.items
 
 -- Each file is as it was.
 abbrev pub SameEntries : MemDisk → MemDisk → Type 0
-SameEntries old new = (id : FileId) → entries_of new id ≡ entries_of old id
+SameEntries old new = (id : FileId) → file_entries new id ≡ file_entries old id
 
 -- This file has this entry, and each other file is as it was.
 abbrev pub HasEntry : FileId → Entry → MemDisk → MemDisk → Type 0
-HasEntry file entry old new = (id : FileId) → entries_of new id ≡ updated file entry (entries_of old) id
+HasEntry file entry old new = (id : FileId) → file_entries new id ≡ updated file entry (file_entries old) id
 
 -- A call of this kind on this file was counted, succeeded only where it isn't one of those that fail, and counted 1 the
 -- count and that of the part by one where it failed, and none where it succeeded.

@@ -25,9 +25,9 @@ abbrev pub is_listed_at : FileId → Op → List FaultAt → Bool
 is_listed_at file op faults = list_any (λ fault. is_of file op fault && fault.nth == 1) faults
 
 -- one call of this kind on this file less to come to the fault
-abbrev pub counted_one : FileId → Op → FaultAt → FaultAt
-counted_one file op fault = if is_of file op fault then record fault { nth = fault.nth - 1 } else fault
+abbrev pub fault_counted : FileId → Op → FaultAt → FaultAt
+fault_counted file op fault = if is_of file op fault then record fault { nth = fault.nth - 1 } else fault
 
 -- the faults after a call of this kind on this file
 abbrev pub counted_at : FileId → Op → List FaultAt → List FaultAt
-counted_at file op faults = map (counted_one file op) faults
+counted_at file op faults = map (fault_counted file op) faults

@@ -22,8 +22,8 @@ abbrev pub entry_of : MemFile → Entry
 entry_of file = record { seen = file.bytes.items; sure = undone file.pending.items file.bytes.items; pending = changes_of file.pending.items }
 
 -- the name of a file
-abbrev pub name_of : MemFile → FileId
-name_of file = file.id
+abbrev pub file_id_of : MemFile → FileId
+file_id_of file = file.id
 
 -- Of these, the entry of a file.
 abbrev pub entry_in : List MemFile → FileId → Entry

@@ -10,7 +10,7 @@ Misses [] id = Unit {0}
 Misses (file ∷ files) id = (same_file file.id id ≡ false) × Misses files id
 
 -- The file stands at this index, and none before it is the file.
-pub record IsAt (files : List MemFile) (i : ℕ) (id : FileId) : Type 0 where
+pub record IsFileAt (files : List MemFile) (i : ℕ) (id : FileId) : Type 0 where
   pub file : MemFile
   pub below : i < length files
   pub is : slice_index_or files i file ≡ file

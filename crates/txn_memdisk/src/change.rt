@@ -1,7 +1,7 @@
 //! A change of a file that a crash may undo or cut short.
 ghost use Rattle.std.specs.Prelude.{◌≡◌, ◌+◌, ◌≤◌, length, OnOk};
 ghost use Rattle.txn_base.specs.Disk.{overwritten};
-ghost use Rattle.txn_memdisk.specs.Change.{undo_one, put_back, undone, made, filled, replayed, changes_of};
+ghost use Rattle.txn_memdisk.specs.Change.{undo_one, bytes_put_back, undone, made, filled, replayed, changes_of};
 
 use std::alloc::{AllocError, Global};
 
@@ -36,7 +36,7 @@ pub fn write_over(bytes: &mut [u8], offset: usize, more: &[u8])
 
 /// Puts bytes at an offset, as far as they lie within.
 fn put_back(bytes: &mut [u8], offset: usize, old: &[u8])
-    ensures { bytes.new ≡ put_back offset old.now bytes.old }
+    ensures { bytes.new ≡ bytes_put_back offset old.now bytes.old }
 {
     let start = offset.min(bytes.len());
     let count = old.len().min(bytes.len() - start);

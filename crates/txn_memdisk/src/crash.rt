@@ -1,7 +1,7 @@
 //! What a crash makes of the files of a disk.
 ghost use Rattle.std.specs.Prelude.{◌≡◌, IfOk};
 ghost use Rattle.txn_memdisk.specs.Files.{entry_of, sure_entry};
-ghost use Rattle.txn_memdisk.specs.Crash.{chosen, Mirrors};
+ghost use Rattle.txn_memdisk.specs.Crash.{chosen, AreCrashedFrom};
 
 use crate::change::{replay, undo_all};
 use crate::file::MemFile;
@@ -49,7 +49,7 @@ pub fn all_left(
     choice: Choice,
     files: &[MemFile],
 ) -> Result<Vec<MemFile>, AllocError>
-    ensures { IfOk result (λ left. Mirrors choice files.now left.items) }
+    ensures { IfOk result (λ left. AreCrashedFrom choice files.now left.items) }
 {
     let mut all = Vec::new(alloc);
     for file in files {

@@ -9,7 +9,7 @@ ghost use Rattle.txn_memdisk.specs.Faults.{is_listed_at};
 ghost use Rattle.txn_memdisk.specs.Files.{Becomes, nothing, written_entry, lost_entry, sized_entry, sure_entry};
 ghost use Rattle.txn_memdisk.specs.Past.{only_last};
 ghost use Rattle.txn_memdisk.specs.Mixed.{mixed_image};
-ghost use Rattle.txn_memdisk.specs.Disk.{seen_of, image_of, moment_of, left_of, faults_of, part_faults_of, calls_of, writes_of, entries_of, waits_of, SameEntries, HasEntry, IsCounted};
+ghost use Rattle.txn_memdisk.specs.Disk.{seen_of, image_of, moment_of, left_since_of, faults_of, part_faults_of, calls_of, writes_of, file_entries, waits_of, SameEntries, HasEntry, IsCounted};
 
 mod told;
 
@@ -47,7 +47,7 @@ impl Disk for MemDisk {
 
     ghost moment = { moment_of };
 
-    ghost left_since = { left_of };
+    ghost left_since = { left_since_of };
 
     ghost faults = { faults_of };
 
@@ -71,7 +71,7 @@ impl Disk for MemDisk {
         ensures size { IfOk result (λ n. n ≡ length (seen_of self.old file)) }
         ensures bound { IfOk result (λ n. n ≤ 2 ^ 50) }
         ensures seen { seen_of self.new ≡ seen_of self.old }
-        ensures images { Since moment_of image_of left_of Same self.old self.new }
+        ensures images { Since moment_of image_of left_since_of Same self.old self.new }
         ensures cause { HasPartCause file.part (faults_of self.old) (faults_of self.new) (part_faults_of self.old) (part_faults_of self.new) result }
         ensures calls { calls_of self.new ≡ counted 1 (calls_of self.old) }
         ensures writes { writes_of self.new ≡ writes_of self.old }
@@ -94,7 +94,7 @@ impl Disk for MemDisk {
         requires { Unit {0} → offset + length into.old ≤ length (seen_of self.old file) }
         ensures read { OnOk result (into.new ≡ take (length into.old) (drop offset (seen_of self.old file))) }
         ensures seen { seen_of self.new ≡ seen_of self.old }
-        ensures images { Since moment_of image_of left_of Same self.old self.new }
+        ensures images { Since moment_of image_of left_since_of Same self.old self.new }
         ensures cause { HasPartCause file.part (faults_of self.old) (faults_of self.new) (part_faults_of self.old) (part_faults_of self.new) result }
         ensures calls { calls_of self.new ≡ counted 1 (calls_of self.old) }
         ensures writes { writes_of self.new ≡ writes_of self.old }
@@ -117,13 +117,13 @@ impl Disk for MemDisk {
         ensures written { OnOk result (seen_of self.new file ≡ overwritten offset bytes.now (seen_of self.old file)) }
         ensures torn { OnErr result (Torn offset (length bytes.now) (seen_of self.old file) (seen_of self.new file)) }
         ensures others { Elsewhere file (seen_of self.old) (seen_of self.new) }
-        ensures images { Since moment_of image_of left_of (Changes file (Torn offset (length bytes.now))) self.old self.new }
+        ensures images { Since moment_of image_of left_since_of (Changes file (Torn offset (length bytes.now))) self.old self.new }
         ensures cause { HasPartCause file.part (faults_of self.old) (faults_of self.new) (part_faults_of self.old) (part_faults_of self.new) result }
         ensures calls { calls_of self.new ≡ counted 1 (calls_of self.old) }
         ensures writes { writes_of self.new ≡ counted 1 (writes_of self.old) }
         ensures counted { IsCounted Op.WriteAt file result self.old self.new }
-        ensures entries { OnOk result (HasEntry file (written_entry offset bytes.now (entries_of self.old file)) self.old self.new) }
-        ensures failed { OnErr result (SameEntries self.old self.new ⊎ ((is_listed_at file Op.WriteAt (waits_of self.old) ≡ true) × (HasEntry file (lost_entry offset (length bytes.now) (entries_of self.old file)) self.old self.new))) }
+        ensures entries { OnOk result (HasEntry file (written_entry offset bytes.now (file_entries self.old file)) self.old self.new) }
+        ensures failed { OnErr result (SameEntries self.old self.new ⊎ ((is_listed_at file Op.WriteAt (waits_of self.old) ≡ true) × (HasEntry file (lost_entry offset (length bytes.now) (file_entries self.old file)) self.old self.new))) }
     {
         self.calls.write();
         if fires_at(&mut self.waits, file, Op::WriteAt) {
@@ -147,12 +147,12 @@ impl Disk for MemDisk {
         ensures resized { OnOk result (seen_of self.new file ≡ resized size (seen_of self.old file)) }
         ensures sized { OnErr result (OldOrResized size (seen_of self.old file) (seen_of self.new file)) }
         ensures others { Elsewhere file (seen_of self.old) (seen_of self.new) }
-        ensures images { Since moment_of image_of left_of (Changes file (OldOrResized size)) self.old self.new }
+        ensures images { Since moment_of image_of left_since_of (Changes file (OldOrResized size)) self.old self.new }
         ensures cause { HasPartCause file.part (faults_of self.old) (faults_of self.new) (part_faults_of self.old) (part_faults_of self.new) result }
         ensures calls { calls_of self.new ≡ counted 1 (calls_of self.old) }
         ensures writes { writes_of self.new ≡ counted 1 (writes_of self.old) }
         ensures counted { IsCounted Op.Resize file result self.old self.new }
-        ensures entries { OnOk result (HasEntry file (sized_entry size (entries_of self.old file)) self.old self.new) }
+        ensures entries { OnOk result (HasEntry file (sized_entry size (file_entries self.old file)) self.old self.new) }
         ensures failed { OnErr result (SameEntries self.old self.new) }
     {
         self.calls.write();
@@ -171,12 +171,12 @@ impl Disk for MemDisk {
     fn sync(&mut self, file: FileId) -> Result<(), Failed>
         ensures durable { OnOk result (Only file (seen_of self.old file) (image_of self.new)) }
         ensures seen { seen_of self.new ≡ seen_of self.old }
-        ensures images { Since moment_of image_of left_of Same self.old self.new }
+        ensures images { Since moment_of image_of left_since_of Same self.old self.new }
         ensures cause { HasPartCause file.part (faults_of self.old) (faults_of self.new) (part_faults_of self.old) (part_faults_of self.new) result }
         ensures calls { calls_of self.new ≡ counted 1 (calls_of self.old) }
         ensures writes { writes_of self.new ≡ counted 1 (writes_of self.old) }
         ensures counted { IsCounted Op.Sync file result self.old self.new }
-        ensures entries { OnOk result (HasEntry file (sure_entry (entries_of self.old file).seen) self.old self.new) }
+        ensures entries { OnOk result (HasEntry file (sure_entry (file_entries self.old file).seen) self.old self.new) }
         ensures failed { OnErr result (SameEntries self.old self.new) }
     {
         self.calls.write();
@@ -193,7 +193,7 @@ impl Disk for MemDisk {
 impl MemDisk {
     /// An empty disk, on which these calls fail. Each is the nth of its kind on its file, counted from 1.
     pub fn new(alloc: Global, faults: &[FaultAt]) -> Result<MemDisk, AllocError>
-        ensures entries { IfOk result (λ disk. (id : FileId) → entries_of disk id ≡ nothing) }
+        ensures entries { IfOk result (λ disk. (id : FileId) → file_entries disk id ≡ nothing) }
         ensures empty { IfOk result (λ disk. (id : FileId) → seen_of disk id ≡ []) }
         ensures only { IfOk result (λ disk. (c : Files) → image_of disk c → (id : FileId) → c id ≡ []) }
         ensures waits { IfOk result (λ disk. waits_of disk ≡ faults.now) }
@@ -218,7 +218,7 @@ impl MemDisk {
         ensures seen { OnOk result (seen_of self.new file ≡ bytes.now) }
         ensures others { Elsewhere file (seen_of self.old) (seen_of self.new) }
         ensures durable { OnOk result (Only file bytes.now (image_of self.new)) }
-        ensures images { OnOk result (Since moment_of image_of left_of (Changes file (Becomes bytes.now)) self.old self.new) }
+        ensures images { OnOk result (Since moment_of image_of left_since_of (Changes file (Becomes bytes.now)) self.old self.new) }
         ensures err { OnErr result (SameEntries self.old self.new) }
         ensures waits { waits_of self.new ≡ waits_of self.old }
         ensures counts { self.new.counts ≡ self.old.counts }
@@ -238,7 +238,7 @@ impl MemDisk {
 
     /// A disk as a crash leaves it: none of its calls is to fail, none has failed, and a further crash leaves the same.
     pub fn crash(&self, choice: Choice) -> Result<MemDisk, AllocError>
-        ensures left { IfOk result (λ disk. (id : FileId) → entries_of disk id ≡ sure_entry (chosen choice (entries_of self.now id))) }
+        ensures left { IfOk result (λ disk. (id : FileId) → file_entries disk id ≡ sure_entry (chosen choice (file_entries self.now id))) }
         ensures image { IfOk result (λ disk. image_of self.now (seen_of disk)) }
         ensures only { IfOk result (λ disk. (c : Files) → image_of disk c → (id : FileId) → c id ≡ seen_of disk id) }
         ensures waits { IfOk result (λ disk. waits_of disk ≡ []) }
@@ -260,12 +260,12 @@ impl MemDisk {
     /// Counts a write that fails. Its range is pending, unless there is no memory to say so.
     fn lose(&mut self, file: FileId, offset: u64, count: u64) -> Result<(), Failed>
         ensures error { IsErr result }
-        ensures images { Since moment_of image_of left_of (Changes file (Torn offset count)) self.old self.new }
+        ensures images { Since moment_of image_of left_since_of (Changes file (Torn offset count)) self.old self.new }
         ensures cause { HasPartCause file.part (faults_of self.old) (faults_of self.new) (part_faults_of self.old) (part_faults_of self.new) result }
         ensures one_failed { (faults_of self.new ≡ counted 1 (faults_of self.old)) × (part_faults_of self.new file.part ≡ counted 1 (part_faults_of self.old file.part)) }
         ensures waits { waits_of self.new ≡ waits_of self.old }
         ensures calls { self.new.calls ≡ self.old.calls }
-        ensures entries { SameEntries self.old self.new ⊎ (HasEntry file (lost_entry offset count (entries_of self.old file)) self.old self.new) }
+        ensures entries { SameEntries self.old self.new ⊎ (HasEntry file (lost_entry offset count (file_entries self.old file)) self.old self.new) }
     {
         match lose(
             self.alloc,

@@ -1,6 +1,6 @@
 //! Which calls of a disk fail.
 ghost use Rattle.std.specs.Prelude.{◌≡◌};
-ghost use Rattle.txn_memdisk.specs.Faults.{is_of, counted_one, is_listed_at, counted_at};
+ghost use Rattle.txn_memdisk.specs.Faults.{is_of, fault_counted, is_listed_at, counted_at};
 
 use txn_base::FileId;
 
@@ -29,7 +29,7 @@ fn is_of(fault: &FaultAt, file: FileId, op: Op) -> bool
 }
 
 fn counted(fault: &FaultAt, file: FileId, op: Op) -> FaultAt
-    ensures { result ≡ counted_one file op fault.now }
+    ensures { result ≡ fault_counted file op fault.now }
 {
     if is_of(fault, file, op) {
         FaultAt {

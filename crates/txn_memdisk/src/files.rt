@@ -2,7 +2,7 @@
 ghost use Rattle.std.specs.Prelude.{◌≡◌, ◌+◌, ◌≤◌, length, IfSome, IfNone, IfOk, OnOk, OnErr};
 ghost use Rattle.txn_base.specs.declared.file_id.FileId.{FileId};
 ghost use Rattle.txn_memdisk.specs.Files.{entry_in, updated, sized_entry, written_entry, lost_entry, sure_entry};
-ghost use Rattle.txn_memdisk.specs.Places.{IsAt, Misses};
+ghost use Rattle.txn_memdisk.specs.Places.{IsFileAt, Misses};
 ghost use Rattle.txn_memdisk.specs.Past.{Remembers};
 
 use crate::file::MemFile;
@@ -12,7 +12,7 @@ use txn_base::FileId;
 
 /// The index of a file.
 pub fn find(files: &[MemFile], id: FileId) -> Option<usize>
-    ensures some { IfSome result (λ i. IsAt files.now i id) }
+    ensures some { IfSome result (λ i. IsFileAt files.now i id) }
     ensures none { IfNone result (Misses files.now id) }
 {
     for i in 0..files.len() {
@@ -35,7 +35,7 @@ pub fn bytes_in(files: &[MemFile], id: FileId) -> &[u8]
 
 /// The index of a file, which is made where it isn't there yet.
 fn place(alloc: Global, files: &mut Vec<MemFile>, id: FileId) -> Result<usize, AllocError>
-    ensures at { IfOk result (λ i. IsAt files.new.items i id) }
+    ensures at { IfOk result (λ i. IsFileAt files.new.items i id) }
     ensures entries { (other : FileId) → entry_in files.new.items other ≡ entry_in files.old.items other }
 {
     if let Some(i) = find(files, id) {

@@ -1,7 +1,7 @@
 -- A lawful world stays lawful where of its allowed flights some are kept, each whole.
 use Rattle.std.proofs.Common.{◌≡◌, ◌⊎◌, inl, inr, ℕ, ◌==◌, eqb-true, Bool, true, false, if◌then◌else◌, List, [], ◌∷◌, ◌++◌, length, Some, refl, sym, ap, ◌∙◌, subst}
 use Rattle.std.proofs.lemmas.List.{append-nil}
-use Rattle.txn_model.proofs.Words.{TxnId, Decision, CoreEntry, CoordEntry, TopicEntry, AckEntry, is_sub, World, list_at, coord_skeleton, coord_skeletons, topic_skeleton, topic_skeletons, ack_skeleton, ack_skeletons, name_of, CoordLawful, decision_of, closing_of, in_parts, TopicLawful, marker_of, AckLawful, log_of, part_skeletons, has_inside, Lawful, Flights, followed, kept, flight_skeletons, AllowedFlights}
+use Rattle.txn_model.proofs.Words.{TxnId, Decision, CoreEntry, CoordEntry, TopicEntry, AckEntry, is_sub, World, list_at, coord_skeleton, coord_skeletons, topic_skeleton, topic_skeletons, ack_skeleton, ack_skeletons, name_of, CoordLawful, decision_of, closing_of, in_parts, TopicLawful, marker_of, AckLawful, log_of, part_skeletons, has_inside, Lawful, Flights, followed, with_kept, flight_skeletons, AllowedFlights}
 use Rattle.txn_model.proofs.Bools.{no_true, none_some}
 use Rattle.txn_model.proofs.Prefixes.{map_append}
 use Rattle.txn_model.proofs.LawfulGrowth.{marker_stays, Growth, lawful_growth}
@@ -23,7 +23,7 @@ more_lawful P es es' flight (inl e) p q = subst P (sym e) q
 more_lawful P es es' flight (inr e) p q = subst P (sym e) p
 
 -- from w to w' some of the flights were kept
-pub record Choice (w w' : World) (f : Flights) : Type 0 where
+pub record SomeKept (w w' : World) (f : Flights) : Type 0 where
   pub names : w'.names ≡ w.names
   pub coord : Chosen w.coord w'.coord f.coord
   pub topics : (p : ℕ) → Chosen (list_at w.topics p) (list_at w'.topics p) (f.topics p)
@@ -49,7 +49,7 @@ log_either : (P : List CoreEntry → Type 0) (cs cs' flight : List CoordEntry) (
 log_either P cs cs' flight (inl e) none all = all
 log_either P cs cs' flight (inr e) none all = none
 
-module _ (w w' : World) (f : Flights) (choice : Choice w w' f) (l : Lawful w) (a : AllowedFlights w f) where
+module _ (w w' : World) (f : Flights) (choice : SomeKept w w' f) (l : Lawful w) (a : AllowedFlights w f) where
   abbrev added : List CoreEntry
   added = coord_skeletons (more w.coord w'.coord f.coord choice.coord)
 
@@ -99,15 +99,15 @@ chosen_followed stays flights (l ∷ ls) q =
     (λ h. subst (λ k. Chosen l.1 (if stays l.0 then l.1 ++ flights l.0 else l.1) (flights k)) (eqb-true l.0 q h) (chosen_if (stays l.0) l.1 (flights l.0)))
     (chosen_followed stays flights ls q)
 
-pub kept_choice : (w : World) (f : Flights) (stays : ℕ → Bool) → Choice w (kept w f stays) f
+pub kept_choice : (w : World) (f : Flights) (stays : ℕ → Bool) → SomeKept w (with_kept w f stays) f
 kept_choice w f stays =
     record { names = refl; coord = chosen_if (stays 0) w.coord f.coord; topics = λ p. chosen_followed stays f.topics w.topics p; subs = λ p. chosen_followed stays f.subs w.subs p }
 
-pub lawful_kept : (w : World) (f : Flights) (stays : ℕ → Bool) → Lawful w → AllowedFlights w f → Lawful (kept w f stays)
-lawful_kept w f stays l a = lawful_choice w (kept w f stays) f (kept_choice w f stays) l a
+pub lawful_kept : (w : World) (f : Flights) (stays : ℕ → Bool) → Lawful w → AllowedFlights w f → Lawful (with_kept w f stays)
+lawful_kept w f stays l a = lawful_choice w (with_kept w f stays) f (kept_choice w f stays) l a
 
 -- a marker that stood still stands
-pub choice_markers : (w w' : World) (f : Flights) → Choice w w' f → (p : ℕ) (x : TxnId) (d : Decision) → marker_of (part_skeletons w p) x ≡ Some d → marker_of (part_skeletons w' p) x ≡ Some d
+pub choice_markers : (w w' : World) (f : Flights) → SomeKept w w' f → (p : ℕ) (x : TxnId) (d : Decision) → marker_of (part_skeletons w p) x ≡ Some d → marker_of (part_skeletons w' p) x ≡ Some d
 choice_markers w w' f choice p x d h =
     subst (λ s. marker_of s x ≡ Some d)
     (sym (ap (λ names. if is_sub (name_of names p) then ack_skeletons (list_at w'.subs p) else topic_skeletons (list_at w'.topics p)) choice.names

@@ -1,7 +1,7 @@
 -- Each reply that tells of a fault was paid by a rise of the count of faults.
 use Rattle.std.proofs.Common.{◌≡◌, inl, inr, ℕ, ◌+◌, ◌-◌, ◌^◌, ◌≤◌, min, arith, zero-add, cond, Bool, true, false, List, [], ◌∷◌, Some, None, refl, sym, ap, ◌∙◌, subst}
 use Rattle.std.proofs.lemmas.List.Sums.{sum_by-append}
-use Rattle.txn_model.proofs.Words.{Option, option_map, list_all, Limits, TxnId, Decision, Request, Reply, Outcome, Why, Refusal, Transactions, Log, Held, World, first_of, when, parts_of, log_of, TableState, settled, marked, decision_batch, limit_in, early_rows, late_rows, success_of, StopsAt, recovery_fault, recovery_memory, marker_memory, marker_fault, StopsWithin, Drives, already, closes, close_fault, stops, Answers, early, unrecovered, unread, late, granted, no_memory, no_memory_later, tick_reply, moved, is_fault_why, is_stopped, is_fault, count_faults, Standing, RoseAt, Kind, too_long, blank, form, AnswersFrom, Replied, Replies}
+use Rattle.txn_model.proofs.Words.{Option, option_map, list_all, Limits, TxnId, Decision, Request, Reply, Outcome, Why, Refusal, Transactions, Log, Held, World, first_of, when, parts_of, log_of, TableState, with_batch, marked, decision_batch, limit_in, early_rows, late_rows, success_of, StopsAt, recovery_fault, recovery_memory, marker_memory, marker_fault, StopsWithin, Drives, already, closes, close_fault, stops, Answers, early, unrecovered, unread, late, granted, no_memory, no_memory_later, tick_reply, moved, is_fault_why, is_stopped, is_fault, count_faults, RunState, RoseAt, LineKind, too_long, blank, form, AnswersFrom, Replied, Replies}
 use Rattle.txn_base.specs.declared.reply.Reply.TheVariants as reply
 use Rattle.txn_base.specs.declared.reply.Why.TheVariants as why
 use Rattle.txn_base.specs.declared.reply.Refusal.TheVariants as no
@@ -108,7 +108,7 @@ module _ (rose : ℕ → Type 0) where
   way_paid limits t r told t' (by_row plain quiet (inl h)) f = absurd (told_clash told (success_of limits t r).reply h.0 quiet f)
   way_paid limits t r told t' (by_row plain quiet (inr h)) f = (h.0, h.2)
   way_paid limits t r told t' (is_idle plain o s) f = absurd (told_clash told (tick_reply t None) o refl f)
-  way_paid limits t r told t' (by_end x d say quiet plain u (inl h)) f = drives_paid x (settled (decision_batch t x d) t) h.0 t' h.1 (sym (ap (λ o. is_fault o.0) h.2 ∙ quiet (h.0, t')) ∙ f)
+  way_paid limits t r told t' (by_end x d say quiet plain u (inl h)) f = drives_paid x (with_batch (decision_batch t x d) t) h.0 t' h.1 (sym (ap (λ o. is_fault o.0) h.2 ∙ quiet (h.0, t')) ∙ f)
   way_paid limits t r told t' (by_end x d say quiet plain u (inr h)) f = (h.0, h.2)
 
   -- a reply that tells of a fault comes only where the count of some part rose
@@ -135,21 +135,21 @@ paid_both top a m b n c h k = omega (arith, h, k)
 paid_none : (top a b : ℕ) → a ≤ b → min (a + 0) top ≤ b
 paid_none top a b h = omega (arith, h)
 
-paid_still : (s s' : Standing) → s' ≡ s → Paid s.faults 0 s'.faults
+paid_still : (s s' : RunState) → s' ≡ s → Paid s.faults 0 s'.faults
 paid_still s s' e = subst (λ u. Paid s.faults 0 u.faults) (sym e) (paid_none (2 ^ 64 - 1) s.faults s.faults (omega arith))
 
 one_paid : (a b : ℕ) (one : Reply) (c : Bool) → is_fault one ≡ c → (c ≡ true → min (a + 1) (2 ^ 64 - 1) ≤ b) → a ≤ b → Paid a (count_faults (one ∷ [])) b
 one_paid a b one true e rises h = subst (λ n. Paid a n b) (sym (zero-add (cond (is_fault one) 1 0) ∙ ap (λ k. cond k 1 0) e)) (rises refl)
 one_paid a b one false e rises h = subst (λ n. Paid a n b) (sym (zero-add (cond (is_fault one) 1 0) ∙ ap (λ k. cond k 1 0) e)) (paid_none (2 ^ 64 - 1) a b h)
 
-from_paid : (limits : Limits) (s : Standing) (r : Request) (one : Reply) (s' : Standing) → AnswersFrom limits s r one s' → Paid s.faults (count_faults (one ∷ [])) s'.faults
+from_paid : (limits : Limits) (s : RunState) (r : Request) (one : Reply) (s' : RunState) → AnswersFrom limits s r one s' → Paid s.faults (count_faults (one ∷ [])) s'.faults
 from_paid limits s r one s' (inl h) =
     subst (λ u. Paid s.faults (count_faults (one ∷ [])) u.faults) (sym h.1)
     (subst (λ o. Paid s.faults (count_faults (o ∷ [])) s.faults) (sym h.0) (paid_none (2 ^ 64 - 1) s.faults s.faults (omega arith)))
 from_paid limits s r one s' (inr h) =
     one_paid s.faults s'.faults one (is_fault one) refl (λ f. (answers_paid (RoseAt s s') limits (moved r h.0 s.table) r one s'.table h.2 f).1.0) h.3.faults
 
-line_paid : (limits : Limits) (s : Standing) (kind : Kind) (told : List Reply) (s' : Standing) → Replied limits s kind told s' → Paid s.faults (count_faults told) s'.faults
+line_paid : (limits : Limits) (s : RunState) (kind : LineKind) (told : List Reply) (s' : RunState) → Replied limits s kind told s' → Paid s.faults (count_faults told) s'.faults
 line_paid limits s too_long told s' h = subst (λ o. Paid s.faults (count_faults o) s'.faults) (sym h.0) (paid_still s s' h.1)
 line_paid limits s blank told s' h = subst (λ o. Paid s.faults (count_faults o) s'.faults) (sym h.0) (paid_still s s' h.1)
 line_paid limits s (form None) told s' h =
@@ -160,7 +160,7 @@ line_paid limits s (form None) told s' h =
 line_paid limits s (form (Some r)) told s' h = subst (λ o. Paid s.faults (count_faults o) s'.faults) (sym h.1) (from_paid limits s r h.0 s' h.2)
 
 -- the replies that tell of a fault are at most as many as the count of faults rose by
-pub replies_paid : (limits : Limits) (s : Standing) (kinds : List Kind) (told : List Reply) (s' : Standing) → Replies limits s kinds told s' → Paid s.faults (count_faults told) s'.faults
+pub replies_paid : (limits : Limits) (s : RunState) (kinds : List LineKind) (told : List Reply) (s' : RunState) → Replies limits s kinds told s' → Paid s.faults (count_faults told) s'.faults
 replies_paid limits s [] told s' h = subst (λ o. Paid s.faults (count_faults o) s'.faults) (sym h.0) (paid_still s s' h.1)
 replies_paid limits s (kind ∷ kinds) told s' h =
     subst (λ o. Paid s.faults (count_faults o) s'.faults) (sym h.5)

@@ -136,5 +136,5 @@ first_lawful w words names s l =
       shaped = shaped_words w words s;
       lawful = words_lawful w words names s l;
       flights = no_flights_allowed (world_named w (names_with w.names words)) (words_lawful w words names s l);
-      fenced = record { coord = λ h. refl; topics = λ p h. refl; subs = λ p h. refl };
+      unrebuilt = record { coord = λ h. refl; topics = λ p h. refl; subs = λ p h. refl };
     }

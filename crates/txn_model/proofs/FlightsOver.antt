@@ -1,11 +1,11 @@
 -- Which flights are allowed over a world that has grown.
 use Rattle.std.proofs.Common.{◌≡◌, ◌⊎◌, inl, inr, ℕ, ◌==◌, eq-eqb, eqb-true, Bool, true, false, if◌then◌else◌, List, [], ◌∷◌, ◌++◌, length, Some, refl, sym, ap, ◌∙◌, subst}
 use Rattle.std.proofs.lemmas.List.{append-nil}
-use Rattle.txn_model.proofs.Words.{TxnId, Decision, CoreEntry, TopicEntry, AckEntry, is_sub, World, list_at, append_at, set_at, coord_skeletons, topic_skeletons, ack_skeletons, name_of, CoordLawful, decision_of, closing_of, in_parts, TopicLawful, marker_of, AckLawful, log_of, part_skeletons, has_inside, Lawful, Flights, no_flights, Batch, nothing, in_coord, in_topic, in_sub, world_with, flights_with, log_with, flight_skeletons, AllowedFlights}
+use Rattle.txn_model.proofs.Words.{TxnId, Decision, CoreEntry, TopicEntry, AckEntry, is_sub, World, list_at, append_at, set_at, coord_skeletons, topic_skeletons, ack_skeletons, name_of, CoordLawful, decision_of, closing_of, in_parts, TopicLawful, marker_of, AckLawful, log_of, part_skeletons, has_inside, Lawful, Flights, no_flights, EntryBatch, nothing, in_coord, in_topic, in_sub, world_with, flights_with, log_with, flight_skeletons, AllowedFlights}
 use Rattle.txn_model.proofs.Bools.{no_true, none_some}
 use Rattle.txn_model.proofs.Lists.{at_append}
 use Rattle.txn_model.proofs.LawfulGrowth.{parts_stay, decision_stays, marker_stays}
-use Rattle.txn_model.proofs.Chosen.{Chosen, Choice, more, part_more, log_more}
+use Rattle.txn_model.proofs.Chosen.{Chosen, SomeKept, more, part_more, log_more}
 
 -- ---- No flights.
 
@@ -51,7 +51,7 @@ pub record Resting (w w' : World) (f f' : Flights) : Type 0 where
   pub topics : (p : ℕ) → Rests (list_at w.topics p) (list_at w'.topics p) (f.topics p) (f'.topics p)
   pub subs : (p : ℕ) → Rests (list_at w.subs p) (list_at w'.subs p) (f.subs p) (f'.subs p)
 
-module _ (w w' : World) (g f f' : Flights) (choice : Choice w w' g) (rest : Resting w w' f f') (l : Lawful w') (a : AllowedFlights w f) where
+module _ (w w' : World) (g f f' : Flights) (choice : SomeKept w w' g) (rest : Resting w w' f f') (l : Lawful w') (a : AllowedFlights w f) where
   log_is : log_of w' ≡ log_of w ++ coord_skeletons (more w.coord w'.coord g.coord choice.coord)
   log_is = log_more w.coord w'.coord g.coord choice.coord
 
@@ -144,7 +144,7 @@ chosen_append ls p es q = subst (λ l. Chosen (list_at ls q) l (set_at (λ k. []
     by_test true e = inl (ap (λ k. list_at ls k ++ es) (eqb-true p q e) ∙ ap (λ l. list_at ls q ++ l) (sym (ap (λ b. if b then es else []) (turned p q e))))
     by_test false e = inr refl
 
-pub batch_choice : (b : Batch) (w : World) → Choice w (world_with b w) (flights_with b no_flights)
+pub batch_choice : (b : EntryBatch) (w : World) → SomeKept w (world_with b w) (flights_with b no_flights)
 batch_choice nothing w = record { names = refl; coord = inr refl; topics = λ p. inr refl; subs = λ p. inr refl }
 batch_choice (in_coord e) w = record { names = refl; coord = inl refl; topics = λ p. inr refl; subs = λ p. inr refl }
 batch_choice (in_topic q es) w = record { names = refl; coord = inr refl; topics = chosen_append w.topics q es; subs = λ p. inr refl }

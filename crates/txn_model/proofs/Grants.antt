@@ -1,6 +1,6 @@
 -- What a request adds that no row refuses is allowed.
 use Rattle.std.proofs.Common.{◌≡◌, ℕ, ◌+◌, ◌<◌, ◌≤◌, leb-false, le-leb, Bool, true, false, ◌&&◌, ◌||◌, not, if◌then◌else◌, List, [], ◌∷◌, length, Some, None, refl, sym, ap, ◌∙◌, subst}
-use Rattle.txn_model.proofs.Words.{Option, map, find, is_none, nat_le, list_all, Limits, TxnId, Decision, Commit, Abort, Status, AckEntry, Ack, These, UpTo, Request, is_sub, World, list_at, below, same_txn, topic_skeletons, ack_skeleton, ack_skeletons, message_entry, name_of, count_new, status_of, in_parts, is_open, txn, part_allows, marker_of, holder_of, is_free, is_foreign, places_allow, asks, unread_place, new_places, ack_entry, acks_for, log_of, part_skeletons, has_inside, Lawful, TableState, Batch, nothing, in_coord, in_topic, in_sub, decision_entry, decision_batch, is_topic, IsFor, number_of, limit_in, early_refusal, late_refusal, forbids, has_ended, acks_batch, success_of, IsAllowed, named, fits_kind, txn_of, adds_inside, ack_of, part_in, ack_list, unwrap_or}
+use Rattle.txn_model.proofs.Words.{Option, map, find, is_none, nat_le, list_all, Limits, TxnId, Decision, Commit, Abort, Status, AckEntry, Ack, These, UpTo, Request, is_sub, World, list_at, below, same_txn, topic_skeletons, ack_skeleton, ack_skeletons, message_entry, name_of, count_new, status_of, in_parts, is_open, txn, part_allows, marker_of, holder_of, is_free, is_foreign, places_allow, asks, unread_place, new_places, ack_entry, acks_for, log_of, part_skeletons, has_inside, Lawful, TableState, EntryBatch, nothing, in_coord, in_topic, in_sub, decision_entry, decision_batch, is_topic, IsFor, number_of, limit_in, early_refusal, late_refusal, forbids, has_ended, acks_batch, success_of, IsAllowed, named, fits_kind, txn_of, adds_inside, ack_asked, part_in, ack_list, unwrap_or}
 use Rattle.txn_base.specs.declared.entry.CoordEntry.TheVariants as coord
 use Rattle.txn_base.specs.declared.entry.AckEntry.TheVariants as ack
 use Rattle.txn_base.specs.declared.request.Request.TheVariants as request
@@ -13,7 +13,7 @@ use Rattle.txn_model.proofs.Refused.{Naming, naming, when_none, Passed, passed, 
 use Rattle.txn_model.proofs.AllowedBatches.{nothing_allowed, coord_allowed, topic_allowed, sub_allowed}
 
 -- a batch is for a part of its kind, and allowed
-pub record Granted (b : Batch) (w : World) : Type 0 where
+pub record Granted (b : EntryBatch) (w : World) : Type 0 where
   pub fits : IsFor b w.names
   pub allowed : IsAllowed b w
 
@@ -168,7 +168,7 @@ for_sub : (w : World) (r : Request) (name : List ℕ) (k : Known w.names name (n
 for_sub w r name k e = named_part is_sub w.names (number_of w name) k.low k.high (ap is_sub k.named ∙ e)
 
 acks_row : (limits : Limits) (t : TableState) (r : Request) (sub : List ℕ) (asked : Ack) → Lawful t.world → early_refusal limits t.world r ≡ None → late_refusal limits t r ≡ None
-    → named r ≡ Some sub → fits_kind r sub ≡ is_sub sub → adds_inside r ≡ true → ack_of r ≡ Some asked
+    → named r ≡ Some sub → fits_kind r sub ≡ is_sub sub → adds_inside r ≡ true → ack_asked r ≡ Some asked
     → Granted (acks_batch (part_in t.world r) (acks_for (txn_of r) asked (new_places (limit_in t.world r) (ack_list t.world r) asked))) t.world
 acks_row limits t r sub asked l early late is kind adds asks =
     let found : (p : ℕ) × Naming t.world r sub p = naming limits t.world r sub is early in

@@ -2,7 +2,7 @@
 use Rattle.std.proofs.Common.{◌≡◌, ℕ, ◌==◌, eqb-true, Bool, true, false, if◌then◌else◌, List, [], ◌∷◌, ◌++◌, ◌+◌, length, drop, refl, sym, ap, ◌∙◌, subst, append_assoc}
 use Rattle.std.proofs.lemmas.List.{append-nil}
 use mathlib.Core.List.{IsPrefix}
-use Rattle.txn_model.proofs.Words.{Limits, Reply, is_sub, World, list_at, with_list, append_at, Extends, Flights, followed, kept, TableState, Batch, nothing, in_coord, in_topic, in_sub, world_with, resolved, is_topic, names_with, lists_for, world_named, Standing, Kind, Replies}
+use Rattle.txn_model.proofs.Words.{Limits, Reply, is_sub, World, list_at, with_list, append_at, Extends, Flights, followed, with_kept, TableState, EntryBatch, nothing, in_coord, in_topic, in_sub, world_with, resolved, is_topic, names_with, lists_for, world_named, RunState, LineKind, Replies}
 use Rattle.txn_model.proofs.Shapes.{names_grow}
 use Rattle.txn_model.proofs.Moves.{Moves, replies_go}
 
@@ -58,7 +58,7 @@ extends_both a b c f g =
       subs = λ p. both (list_at a.subs p) (list_at b.subs p) (list_at c.subs p) (f.subs p) (g.subs p);
     }
 
-pub batch_grows : (b : Batch) (w : World) → Extends w (world_with b w)
+pub batch_grows : (b : EntryBatch) (w : World) → Extends w (world_with b w)
 batch_grows nothing w = extends_same w
 batch_grows (in_coord e) w = record { names = same w.names; coord = then_more w.coord (e ∷ []); topics = λ p. same (list_at w.topics p); subs = λ p. same (list_at w.subs p) }
 batch_grows (in_topic q es) w = record { names = same w.names; coord = same w.coord; topics = λ p. append_grows w.topics q es p; subs = λ p. same (list_at w.subs p) }
@@ -78,7 +78,7 @@ named_grows w words =
     }
 
 -- what a stop leaves extends what stood
-pub kept_grows : (w : World) (f : Flights) (stays : ℕ → Bool) → Extends w (kept w f stays)
+pub kept_grows : (w : World) (f : Flights) (stays : ℕ → Bool) → Extends w (with_kept w f stays)
 kept_grows w f stays =
     record { names = same w.names; coord = if_grows (stays 0) w.coord f.coord; topics = λ p. followed_grows stays f.topics w.topics p; subs = λ p. followed_grows stays f.subs w.subs p }
 
@@ -104,5 +104,5 @@ growing limits =
     }
 
 -- over any lines the world grows
-pub replies_grow : (limits : Limits) (s : Standing) (kinds : List Kind) (told : List Reply) (s' : Standing) → Replies limits s kinds told s' → Extends s.table.world s'.table.world
+pub replies_grow : (limits : Limits) (s : RunState) (kinds : List LineKind) (told : List Reply) (s' : RunState) → Replies limits s kinds told s' → Extends s.table.world s'.table.world
 replies_grow limits = replies_go limits Grows (growing limits)

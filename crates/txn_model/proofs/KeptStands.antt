@@ -3,7 +3,7 @@ use Rattle.std.proofs.Common.{◌≡◌, inl, inr, ℕ, ◌≤◌, arith, Bool, 
 use Rattle.txn_base.specs.Disk.{Files}
 use Rattle.txn_base.specs.Frames.{Record}
 use Rattle.txn_base.specs.Records.{IsCoordRecord, IsAckRecord}
-use Rattle.txn_model.proofs.Words.{is_sub, World, has, list_at, Flights, kept, TableState, is_topic, topic_parts, sub_parts, LawfulState}
+use Rattle.txn_model.proofs.Words.{is_sub, World, has, list_at, Flights, with_kept, TableState, is_topic, topic_parts, sub_parts, LawfulState}
 use Rattle.txn_model.specs.Sound.{ledger_file, StandsForEntries, IsBareRecord, Sound, StandsForKept, StandsForEither, LedgersStand}
 use Rattle.txn_model.proofs.Bools.{no_true}
 use Rattle.txn_model.proofs.Lists.{at_followed}
@@ -12,20 +12,20 @@ use Rattle.txn_model.proofs.Chosen.{lawful_kept}
 use Rattle.txn_model.proofs.Parts.{numbered_within, not_both_kinds}
 
 -- the flight stands there
-abbrev with_flight : {E : Type 0} (is : Record → E → Type 0) (bytes : List ℕ) (es flight : List E) → StandsForEither is bytes es flight → Bool
-with_flight is bytes es flight (inl s) = false
-with_flight is bytes es flight (inr s) = true
+abbrev stands_with_flight : {E : Type 0} (is : Record → E → Type 0) (bytes : List ℕ) (es flight : List E) → StandsForEither is bytes es flight → Bool
+stands_with_flight is bytes es flight (inl s) = false
+stands_with_flight is bytes es flight (inr s) = true
 
-stands_so : {E : Type 0} (is : Record → E → Type 0) (bytes : List ℕ) (es flight : List E) (s : StandsForEither is bytes es flight) → StandsForEntries is bytes (if with_flight is bytes es flight s then es ++ flight else es)
+stands_so : {E : Type 0} (is : Record → E → Type 0) (bytes : List ℕ) (es flight : List E) (s : StandsForEither is bytes es flight) → StandsForEntries is bytes (if stands_with_flight is bytes es flight s then es ++ flight else es)
 stands_so is bytes es flight (inl s) = s
 stands_so is bytes es flight (inr s) = s
 
 module _ (names : List (List ℕ)) (files : Files) (w : World) (f : Flights) (l : LedgersStand names files w f) where
   -- by the kind of the part
   abbrev pick : (p : ℕ) (topic sub : Bool) → has (topic_parts names) p ≡ topic → has (sub_parts names) p ≡ sub → Bool
-  pick p true sub e g = with_flight IsBareRecord (files (ledger_file p)) (list_at w.topics p) (f.topics p) (l.topics p e)
-  pick p false true e g = with_flight IsAckRecord (files (ledger_file p)) (list_at w.subs p) (f.subs p) (l.subs p g)
-  pick p false false e g = with_flight IsCoordRecord (files (ledger_file 0)) w.coord f.coord l.coord
+  pick p true sub e g = stands_with_flight IsBareRecord (files (ledger_file p)) (list_at w.topics p) (f.topics p) (l.topics p e)
+  pick p false true e g = stands_with_flight IsAckRecord (files (ledger_file p)) (list_at w.subs p) (f.subs p) (l.subs p g)
+  pick p false false e g = stands_with_flight IsCoordRecord (files (ledger_file 0)) w.coord f.coord l.coord
 
   abbrev stays : ℕ → Bool
   stays p = pick p (has (topic_parts names) p) (has (sub_parts names) p) refl refl
@@ -72,4 +72,4 @@ module _ (names : List (List ℕ)) (files : Files) (w : World) (f : Flights) (l 
 
 -- and they are sound where the state is lawful
 pub kept_sound : (names : List (List ℕ)) (files : Files) (t : TableState) → LawfulState t → StandsForKept names files t.world t.flights → Sound names files
-kept_sound names files t s k = (kept t.world t.flights k.0, k.1, lawful_kept t.world t.flights k.0 s.lawful s.flights)
+kept_sound names files t s k = (with_kept t.world t.flights k.0, k.1, lawful_kept t.world t.flights k.0 s.lawful s.flights)

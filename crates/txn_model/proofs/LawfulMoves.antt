@@ -1,7 +1,7 @@
 -- Whatever lines are told, the table's state stays lawful: what the table adds is granted, and each move keeps the state.
 use Rattle.std.proofs.Common.{◌≡◌, inl, inr, ℕ, zero, suc, ◌+◌, ◌==◌, ◌≤◌, ◌<◌, arith, eq-eqb, eqb-true, leb-true, eq-or-lt_of_le, Bool, true, false, ◌&&◌, not, cond, if◌then◌else◌, List, [], ◌∷◌, ◌++◌, length, Some, None, refl, sym, ap, ◌∙◌, subst}
 use Rattle.std.proofs.lemmas.List.Folds.{list_any-append}
-use Rattle.txn_model.proofs.Words.{Option, filter, nat_le, is_none, is_some, option_or, Limits, TxnId, Decision, Commit, Abort, CoreEntry, AckEntry, Request, Reply, is_sub, topic_of, World, has, list_at, all_follow, numbers_from, same_txn, coord_skeleton, coord_skeletons, topic_skeletons, ack_skeletons, name_of, is_add, closing_skeleton, status_of, decision_of, closing_of, in_parts, parts_of, is_open, coord_allows, marker_of, part_allows, ack_allows, log_of, part_skeletons, has_inside, Lawful, TableState, Batch, nothing, in_coord, in_topic, in_sub, settled, is_fenced, at_moment, decision_entry, decision_batch, closing_entry, closing_batch, topic_marker, ack_marker, marker_batch, is_topic, number_of, acks_in, success_of, acks_batch, Rebuilds, RebuildsAll, MarksAll, with_coord, Standing, Kind, AnswersFrom, Replies, IsAllowed, IsWhole, LawfulState}
+use Rattle.txn_model.proofs.Words.{Option, filter, nat_le, is_none, is_some, option_or, Limits, TxnId, Decision, Commit, Abort, CoreEntry, AckEntry, Request, Reply, is_sub, topic_of, World, has, list_at, all_follow, numbers_from, same_txn, coord_skeleton, coord_skeletons, topic_skeletons, ack_skeletons, name_of, is_add, closing_skeleton, status_of, decision_of, closing_of, in_parts, parts_of, is_open, coord_allows, marker_of, part_allows, ack_allows, log_of, part_skeletons, has_inside, Lawful, TableState, EntryBatch, nothing, in_coord, in_topic, in_sub, with_batch, is_unrebuilt, at_moment, decision_entry, decision_batch, closing_entry, closing_batch, topic_marker, ack_marker, marker_batch, is_topic, number_of, acks_in, success_of, acks_batch, Rebuilds, RebuildsAll, MarksAll, with_coord, RunState, LineKind, AnswersFrom, Replies, IsAllowed, IsPartRebuilt, LawfulState}
 use Rattle.txn_base.specs.Limits.{standard}
 use Rattle.txn_base.specs.declared.core_entry.CoreEntry.TheVariants as core
 use Rattle.txn_base.specs.declared.entry.CoordEntry.TheVariants as coord
@@ -10,7 +10,7 @@ use Rattle.txn_model.proofs.Bools.{no_true, and_l, and_r, and_both, or_cases, no
 use Rattle.txn_model.proofs.Statuses.{txn_equal}
 use Rattle.txn_model.proofs.GrantedEntries.{close_allowed}
 use Rattle.txn_model.proofs.Named.{few_names, named_part}
-use Rattle.txn_model.proofs.LawfulSteps.{same_state, settled_state, fenced_state, resolved_state, rebuilt_state}
+use Rattle.txn_model.proofs.LawfulSteps.{same_state, settled_state, failed_state, resolved_state, rebuilt_state}
 use Rattle.txn_model.proofs.AllowedBatches.{coord_allowed, topic_allowed, sub_allowed}
 use Rattle.txn_model.proofs.Grants.{Granted, nothing_granted, decision_granted, row_granted, topic_part, sub_part}
 use Rattle.txn_model.proofs.Moves.{Stays, rebuilds_stays, all_stay, all_are_whole, topic_marker_skeleton, ack_marker_skeleton, new_marker, IsPart, Ending, has_head, has_later, HaveMarkers, all_marked, WholeFor, MayAdd, of_row, of_decision, of_marker, of_closing, Moves, rebuilds_goes, all_go, marks_go, from_goes, replies_go}
@@ -62,10 +62,10 @@ module _ (w : World) (x : TxnId) (d : Decision) (p : ℕ) (l : Lawful w) (low : 
                 (λ y k h. decided_by y k (ap (λ s. marker_of (s ∷ []) y) (sym (topic_marker_skeleton x d)) ∙ h));
           }
 
-new_marker_whole : (t : TableState) (w : World) (x : TxnId) (d : Decision) (p : ℕ) → is_fenced t p ≡ false → IsWhole (new_marker w x d p) t
+new_marker_whole : (t : TableState) (w : World) (x : TxnId) (d : Decision) (p : ℕ) → is_unrebuilt t p ≡ false → IsPartRebuilt (new_marker w x d p) t
 new_marker_whole t w x d p h = by_kind (is_sub (name_of w.names p))
   where
-    by_kind : (b : Bool) → IsWhole (if b then in_sub p (ack_marker x d) else in_topic p (topic_marker x d ∷ [])) t
+    by_kind : (b : Bool) → IsPartRebuilt (if b then in_sub p (ack_marker x d) else in_topic p (topic_marker x d ∷ [])) t
     by_kind true = h
     by_kind false = h
 
@@ -170,25 +170,25 @@ closing_allowed w x d l unclosed decided all =
 
 -- ---- What the table adds is granted, for a part that is whole.
 
-decision_whole : (t : TableState) (x : TxnId) (d : Decision) → is_fenced t 0 ≡ false → IsWhole (decision_batch t x d) t
+decision_whole : (t : TableState) (x : TxnId) (d : Decision) → is_unrebuilt t 0 ≡ false → IsPartRebuilt (decision_batch t x d) t
 decision_whole t x d whole = by_test (is_open (status_of (log_of t.world) x))
   where
-    by_test : (b : Bool) → IsWhole (if b then in_coord (decision_entry x d) else nothing) t
+    by_test : (b : Bool) → IsPartRebuilt (if b then in_coord (decision_entry x d) else nothing) t
     by_test true = whole
     by_test false = tt
 
-marker_whole : (t : TableState) (x : TxnId) (d : Decision) (p : ℕ) → is_fenced t p ≡ false → IsWhole (marker_batch t x d p) t
+marker_whole : (t : TableState) (x : TxnId) (d : Decision) (p : ℕ) → is_unrebuilt t p ≡ false → IsPartRebuilt (marker_batch t x d p) t
 marker_whole t x d p h = by_test (is_some (marker_of (part_skeletons t.world p) x))
   where
-    by_test : (b : Bool) → IsWhole (if b then nothing else new_marker t.world x d p) t
+    by_test : (b : Bool) → IsPartRebuilt (if b then nothing else new_marker t.world x d p) t
     by_test true = tt
     by_test false = new_marker_whole t t.world x d p h
 
-acks_whole : (t : TableState) (p : ℕ) (es : List _) → is_fenced t p ≡ false → IsWhole (acks_batch p es) t
+acks_whole : (t : TableState) (p : ℕ) (es : List _) → is_unrebuilt t p ≡ false → IsPartRebuilt (acks_batch p es) t
 acks_whole t p [] h = tt
 acks_whole t p (e ∷ es) h = h
 
-add_whole : (t : TableState) (b : Bool) (e : _) → is_fenced t 0 ≡ false → IsWhole (if b then nothing else in_coord e) t
+add_whole : (t : TableState) (b : Bool) (e : _) → is_unrebuilt t 0 ≡ false → IsPartRebuilt (if b then nothing else in_coord e) t
 add_whole t true e h = tt
 add_whole t false e h = h
 
@@ -197,12 +197,12 @@ has_behind None p ps h = h
 has_behind (Some x) p ps h = has_later 0 p ps h
 
 sub_whole : (t : TableState) (who : Option TxnId) (sub : List ℕ) (es : List AckEntry)
-    → ((p : ℕ) → has (with_coord who (number_of t.world (topic_of sub) ∷ number_of t.world sub ∷ [])) p ≡ true → is_fenced t p ≡ false) → IsWhole (acks_batch (number_of t.world sub) es) t
+    → ((p : ℕ) → has (with_coord who (number_of t.world (topic_of sub) ∷ number_of t.world sub ∷ [])) p ≡ true → is_unrebuilt t p ≡ false) → IsPartRebuilt (acks_batch (number_of t.world sub) es) t
 sub_whole t who sub es whole =
     let p : ℕ = number_of t.world sub in
     acks_whole t p es (whole p (has_behind who p (number_of t.world (topic_of sub) ∷ p ∷ []) (has_later (number_of t.world (topic_of sub)) p (p ∷ []) (has_head p []))))
 
-row_whole : (limits : Limits) (t : TableState) (r : Request) → WholeFor r t → IsWhole (success_of limits t r).adds t
+row_whole : (limits : Limits) (t : TableState) (r : Request) → WholeFor r t → IsPartRebuilt (success_of limits t r).adds t
 row_whole limits t (request.New timeout) whole = whole 0 refl
 row_whole limits t (request.Add x part) whole = add_whole t (in_parts (log_of t.world) x (number_of t.world part)) (coord.AddPart x (number_of t.world part)) (whole 0 refl)
 row_whole limits t (request.Publish topic who bodies) whole = whole (number_of t.world topic) (has_behind who (number_of t.world topic) (number_of t.world topic ∷ []) (has_head (number_of t.world topic) []))
@@ -217,9 +217,9 @@ row_whole limits t (request.Redeliver sub) whole = tt
 row_whole limits t request.Tick whole = tt
 row_whole limits t request.Stop whole = tt
 
-pub record MayBeAdded (b : Batch) (t : TableState) : Type 0 where
+pub record MayBeAdded (b : EntryBatch) (t : TableState) : Type 0 where
   pub granted : Granted b t.world
-  pub whole : IsWhole b t
+  pub whole : IsPartRebuilt b t
 
 part_named : (w : World) (x : TxnId) (p : ℕ) → Lawful w → IsPart w x p → (1 ≤ p) × (p ≤ length w.names)
 part_named w x p l (low, inl i) = parts_are_named w x p l i
@@ -229,7 +229,7 @@ part_named w x p l (low, inr high) = (low, high)
 decided_marker : (w : World) (x : TxnId) (d : Decision) (p : ℕ) → Lawful w → decision_of (log_of w) x ≡ Some d → (e : Decision) × (marker_of (part_skeletons w p) x ≡ Some e) → marker_of (part_skeletons w p) x ≡ Some d
 decided_marker w x d p l k m = m.1 ∙ ap Some (some_decision m.0 d (sym (l.decided p x m.0 m.1) ∙ k))
 
-pub may_be_added : (limits : Limits) (t : TableState) (b : Batch) → LawfulState t → MayAdd limits t b → MayBeAdded b t
+pub may_be_added : (limits : Limits) (t : TableState) (b : EntryBatch) → LawfulState t → MayAdd limits t b → MayBeAdded b t
 may_be_added limits t b s (of_row r e l whole is) = subst (λ b. MayBeAdded b t) (sym is) (record { granted = row_granted limits t r s.lawful e l; whole = row_whole limits t r whole })
 may_be_added limits t b s (of_decision x d whole is) = subst (λ b. MayBeAdded b t) (sym is) (record { granted = decision_granted t x d s.lawful; whole = decision_whole t x d whole })
 may_be_added limits t b s (of_marker x d p k part whole is) =
@@ -256,16 +256,16 @@ lawfully limits =
       rebuilds = rebuilt_state;
       adds = λ b t given may s.
           let one : MayBeAdded b t = may_be_added limits t b s may in
-          same_state (settled b t) (record (settled b t) { given = given }) refl refl refl (settled_state b t s one.granted.fits one.whole one.granted.allowed);
-      fails = λ b p t is may s. fenced_state b p t is s (may_be_added limits t b s may).granted.allowed;
+          same_state (with_batch b t) (record (with_batch b t) { given = given }) refl refl refl (settled_state b t s one.granted.fits one.whole one.granted.allowed);
+      fails = λ b p t is may s. failed_state b p t is s (may_be_added limits t b s may).granted.allowed;
       hears = λ moment t s. same_state t (at_moment moment t) refl refl refl s;
     }
 
-pub from_keeps : (limits : Limits) (s : Standing) (r : Request) (told : Reply) (s' : Standing) → LawfulState s.table → AnswersFrom limits s r told s' → LawfulState s'.table
+pub from_keeps : (limits : Limits) (s : RunState) (r : Request) (told : Reply) (s' : RunState) → LawfulState s.table → AnswersFrom limits s r told s' → LawfulState s'.table
 from_keeps limits s r told s' l h = from_goes limits StaysLawful (lawfully limits) s r told s' h l
 
 -- over any lines the state stays lawful
-pub replies_keep : (limits : Limits) (s : Standing) (kinds : List Kind) (told : List Reply) (s' : Standing) → LawfulState s.table → Replies limits s kinds told s' → LawfulState s'.table
+pub replies_keep : (limits : Limits) (s : RunState) (kinds : List LineKind) (told : List Reply) (s' : RunState) → LawfulState s.table → Replies limits s kinds told s' → LawfulState s'.table
 replies_keep limits s kinds told s' l h = replies_go limits StaysLawful (lawfully limits) s kinds told s' h l
 
 -- ---- What recovery and markers keep of a lawful state.
@@ -273,18 +273,18 @@ replies_keep limits s kinds told s' l h = replies_go limits StaysLawful (lawfull
 pub record Keeps (t t' : TableState) : Type 0 where
   pub state : LawfulState t'
   pub names : t'.world.names ≡ t.world.names
-  pub whole : (p : ℕ) → is_fenced t p ≡ false → is_fenced t' p ≡ false
+  pub whole : (p : ℕ) → is_unrebuilt t p ≡ false → is_unrebuilt t' p ≡ false
 
 keeps_by : (t t' : TableState) → Stays t t' → LawfulState t' → Keeps t t'
 keeps_by t t' a s = record { state = s; names = a.names; whole = a.whole }
 
-pub rebuilds_keeps : (p : ℕ) (t t' : TableState) → LawfulState t → Rebuilds p t t' → Keeps t t' × (is_fenced t' p ≡ false)
-rebuilds_keeps p t t' s h = let a : Stays t t' × (is_fenced t' p ≡ false) = rebuilds_stays p t t' h in (keeps_by t t' a.0 (rebuilds_goes standard StaysLawful (lawfully standard) p t t' h s), a.1)
+pub rebuilds_keeps : (p : ℕ) (t t' : TableState) → LawfulState t → Rebuilds p t t' → Keeps t t' × (is_unrebuilt t' p ≡ false)
+rebuilds_keeps p t t' s h = let a : Stays t t' × (is_unrebuilt t' p ≡ false) = rebuilds_stays p t t' h in (keeps_by t t' a.0 (rebuilds_goes standard StaysLawful (lawfully standard) p t t' h s), a.1)
 
 pub all_keep : (ps : List ℕ) (t t' : TableState) → LawfulState t → RebuildsAll ps t t' → Keeps t t'
 all_keep ps t t' s h = keeps_by t t' (all_stay ps t t' h) (all_go standard StaysLawful (lawfully standard) ps t t' h s)
 
-pub all_whole : (ps : List ℕ) (t t' : TableState) → LawfulState t → RebuildsAll ps t t' → (q : ℕ) → has ps q ≡ true → is_fenced t' q ≡ false
+pub all_whole : (ps : List ℕ) (t t' : TableState) → LawfulState t → RebuildsAll ps t t' → (q : ℕ) → has ps q ≡ true → is_unrebuilt t' q ≡ false
 all_whole ps t t' s h = all_are_whole ps t t' h
 
 -- the parts lie among the names

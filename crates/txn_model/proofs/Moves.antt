@@ -2,7 +2,7 @@
 -- each of these moves, and of moves one after another, holds from the state before the lines to the state after them.
 use Rattle.std.proofs.Common.{◌≡◌, ◌⊎◌, inl, inr, ℕ, zero, suc, ◌==◌, ◌≤◌, arith, eq-eqb, eqb-true, Bool, true, false, cond, if◌then◌else◌, List, [], ◌∷◌, ◌++◌, length, Some, None, refl, sym, ap, ◌∙◌, subst}
 use Rattle.std.proofs.lemmas.Bool.Decides.{nat_tests}
-use Rattle.txn_model.proofs.Words.{Option, MatchBool, MatchOption, is_none, is_some, filter, option_or, Limits, TxnId, Decision, Commit, Abort, CoreEntry, Request, Reply, Outcome, Why, is_sub, World, has, list_at, append_at, set_at, numbers_from, coord_skeletons, topic_skeleton, topic_skeletons, ack_skeleton, ack_skeletons, name_of, decision_of, closing_of, in_parts, parts_of, marks, marker_of, log_of, part_skeletons, no_flights, kept, TableState, Batch, nothing, in_coord, in_topic, in_sub, batch_part, world_with, flights_with, settled, fenced_by, resolved, rebuilt, is_fenced, at_moment, decision_batch, closing_batch, topic_marker, ack_marker, marker_batch, given_after, marked, early_refusal, late_refusal, success_of, Rebuilds, RebuildsAll, StaysFenced, RefusedAt, MarksAll, StopsAt, recovery_fault, recovery_memory, marker_memory, marker_fault, StopsWithin, Drives, already, closes, close_fault, stops, uses, AppendFails, Fulfils, Ends, Succeeds, Answers, early, unrecovered, unread, late, granted, no_memory, no_memory_later, tick_target, tick_reply, reads_clock, moved, end_of, after_end, after_drive, after_tick, after_success, plain_success, is_stopped, is_fault, Standing, RoseAt, Kind, too_long, blank, form, AnswersFrom, Replied, Replies}
+use Rattle.txn_model.proofs.Words.{Option, MatchBool, MatchOption, is_none, is_some, filter, option_or, Limits, TxnId, Decision, Commit, Abort, CoreEntry, Request, Reply, Outcome, Why, is_sub, World, has, list_at, append_at, set_at, numbers_from, coord_skeletons, topic_skeleton, topic_skeletons, ack_skeleton, ack_skeletons, name_of, decision_of, closing_of, in_parts, parts_of, marks, marker_of, log_of, part_skeletons, no_flights, with_kept, TableState, EntryBatch, nothing, in_coord, in_topic, in_sub, batch_part, world_with, flights_with, with_batch, with_failed_batch, resolved, rebuilt, is_unrebuilt, at_moment, decision_batch, closing_batch, topic_marker, ack_marker, marker_batch, given_after, marked, early_refusal, late_refusal, success_of, Rebuilds, RebuildsAll, StaysUnrebuilt, RefusedAt, MarksAll, StopsAt, recovery_fault, recovery_memory, marker_memory, marker_fault, StopsWithin, Drives, already, closes, close_fault, stops, uses, AppendFails, Fulfils, Ends, Succeeds, Answers, early, unrecovered, unread, late, granted, no_memory, no_memory_later, tick_target, tick_reply, reads_clock, moved, end_of, after_end, after_drive, after_tick, after_success, plain_success, is_stopped, is_fault, RunState, RoseAt, LineKind, too_long, blank, form, AnswersFrom, Replied, Replies}
 use Rattle.txn_base.specs.declared.core_entry.CoreEntry.TheVariants as core
 use Rattle.txn_base.specs.declared.request.Request.TheVariants as request
 use Rattle.txn_model.proofs.Bools.{no_true}
@@ -17,7 +17,7 @@ use Rattle.txn_model.proofs.Refused.{early_same}
 
 pub record Stays (t t' : TableState) : Type 0 where
   pub names : t'.world.names ≡ t.world.names
-  pub whole : (p : ℕ) → is_fenced t p ≡ false → is_fenced t' p ≡ false
+  pub whole : (p : ℕ) → is_unrebuilt t p ≡ false → is_unrebuilt t' p ≡ false
   pub markers : (p : ℕ) (x : TxnId) (d : Decision) → marker_of (part_skeletons t.world p) x ≡ Some d → marker_of (part_skeletons t'.world p) x ≡ Some d
 
 stays_same : (t t' : TableState) → t' ≡ t → Stays t t'
@@ -28,24 +28,24 @@ stays_both a b c f g = record { names = g.names ∙ f.names; whole = λ p h. g.w
 
 -- ---- Recovery.
 
-unset_at : (fenced : ℕ → Bool) (p q : ℕ) → fenced q ≡ false → set_at fenced p false q ≡ false
-unset_at fenced p q h = by_test (q == p)
+unset_at : (unrebuilt : ℕ → Bool) (p q : ℕ) → unrebuilt q ≡ false → set_at unrebuilt p false q ≡ false
+unset_at unrebuilt p q h = by_test (q == p)
   where
-    by_test : (b : Bool) → (if b then false else fenced q) ≡ false
+    by_test : (b : Bool) → (if b then false else unrebuilt q) ≡ false
     by_test true = refl
     by_test false = h
 
 rebuilt_stays : (p : ℕ) (stays : Bool) (t : TableState) → Stays t (rebuilt p stays t)
 rebuilt_stays p true t =
-    record { names = refl; whole = λ q h. unset_at t.fenced p q h; markers = choice_markers t.world (kept t.world t.flights (λ k. k == p)) t.flights (kept_choice t.world t.flights (λ k. k == p)) }
-rebuilt_stays p false t = record { names = refl; whole = λ q h. unset_at t.fenced p q h; markers = λ q x d h. h }
+    record { names = refl; whole = λ q h. unset_at t.unrebuilt p q h; markers = choice_markers t.world (with_kept t.world t.flights (λ k. k == p)) t.flights (kept_choice t.world t.flights (λ k. k == p)) }
+rebuilt_stays p false t = record { names = refl; whole = λ q h. unset_at t.unrebuilt p q h; markers = λ q x d h. h }
 
-pub rebuilds_stays : (p : ℕ) (t t' : TableState) → Rebuilds p t t' → Stays t t' × (is_fenced t' p ≡ false)
-rebuilds_stays p t t' h = by_test (is_fenced t p) refl h
+pub rebuilds_stays : (p : ℕ) (t t' : TableState) → Rebuilds p t t' → Stays t t' × (is_unrebuilt t' p ≡ false)
+rebuilds_stays p t t' h = by_test (is_unrebuilt t p) refl h
   where
-    by_test : (b : Bool) → is_fenced t p ≡ b → MatchBool b ((stays : Bool) × (t' ≡ rebuilt p stays t)) (t' ≡ t) → Stays t t' × (is_fenced t' p ≡ false)
-    by_test true e h = (subst (Stays t) (sym h.1) (rebuilt_stays p h.0 t), ap (λ u. is_fenced u p) h.1 ∙ ap (λ b. if b then false else t.fenced p) (eq-eqb p p refl))
-    by_test false e h = (stays_same t t' h, ap (λ u. is_fenced u p) h ∙ e)
+    by_test : (b : Bool) → is_unrebuilt t p ≡ b → MatchBool b ((stays : Bool) × (t' ≡ rebuilt p stays t)) (t' ≡ t) → Stays t t' × (is_unrebuilt t' p ≡ false)
+    by_test true e h = (subst (Stays t) (sym h.1) (rebuilt_stays p h.0 t), ap (λ u. is_unrebuilt u p) h.1 ∙ ap (λ b. if b then false else t.unrebuilt p) (eq-eqb p p refl))
+    by_test false e h = (stays_same t t' h, ap (λ u. is_unrebuilt u p) h ∙ e)
 
 -- the coordinator's log stays where another part is recovered
 not_zero : (p : ℕ) → 1 ≤ p → (0 == p) ≡ false
@@ -56,7 +56,7 @@ resolved_coord p true t low = ap (λ b. if b then t.world.coord ++ t.flights.coo
 resolved_coord p false t low = refl
 
 pub rebuilds_coord : (p : ℕ) (t t' : TableState) → 1 ≤ p → Rebuilds p t t' → t'.world.coord ≡ t.world.coord
-rebuilds_coord p t t' low h = by_test (is_fenced t p) h
+rebuilds_coord p t t' low h = by_test (is_unrebuilt t p) h
   where
     by_test : (b : Bool) → MatchBool b ((stays : Bool) × (t' ≡ rebuilt p stays t)) (t' ≡ t) → t'.world.coord ≡ t.world.coord
     by_test true h = ap (λ u. u.world.coord) h.1 ∙ resolved_coord p h.0 t low
@@ -67,12 +67,12 @@ all_stay [] t t' h = stays_same t t' h
 all_stay (p ∷ ps) t t' h = stays_both t h.0 t' (rebuilds_stays p t h.0 h.1).0 (all_stay ps h.0 t' h.2)
 
 -- each of these parts is whole then
-pub all_are_whole : (ps : List ℕ) (t t' : TableState) → RebuildsAll ps t t' → (q : ℕ) → has ps q ≡ true → is_fenced t' q ≡ false
+pub all_are_whole : (ps : List ℕ) (t t' : TableState) → RebuildsAll ps t t' → (q : ℕ) → has ps q ≡ true → is_unrebuilt t' q ≡ false
 all_are_whole [] t t' h q i = absurd (no_true i)
 all_are_whole (p ∷ ps) t t' h q i = by_test (q == p) refl (all_are_whole ps h.0 t' h.2 q) i
   where
-    by_test : (b : Bool) → (q == p) ≡ b → (has ps q ≡ true → is_fenced t' q ≡ false) → (if b then true else has ps q) ≡ true → is_fenced t' q ≡ false
-    by_test true e rest i = (all_stay ps h.0 t' h.2).whole q (subst (λ n. is_fenced h.0 n ≡ false) (sym (eqb-true q p e)) (rebuilds_stays p t h.0 h.1).1)
+    by_test : (b : Bool) → (q == p) ≡ b → (has ps q ≡ true → is_unrebuilt t' q ≡ false) → (if b then true else has ps q) ≡ true → is_unrebuilt t' q ≡ false
+    by_test true e rest i = (all_stay ps h.0 t' h.2).whole q (subst (λ n. is_unrebuilt h.0 n ≡ false) (sym (eqb-true q p e)) (rebuilds_stays p t h.0 h.1).1)
     by_test false e rest i = rest i
 
 -- ---- Markers.
@@ -94,7 +94,7 @@ marker_behind s x d h = first_of-append (marks x) s (core.Marker x d ∷ []) ∙
     by_none (Some e) h = absurd (no_true h)
 
 -- the batch of a marker where none stands
-abbrev pub new_marker : World → TxnId → Decision → ℕ → Batch
+abbrev pub new_marker : World → TxnId → Decision → ℕ → EntryBatch
 new_marker w x d p = if is_sub (name_of w.names p) then in_sub p (ack_marker x d) else in_topic p (topic_marker x d ∷ [])
 
 new_marker_stands : (w : World) (x : TxnId) (d : Decision) (p : ℕ) → is_none (marker_of (part_skeletons w p) x) ≡ true → marker_of (part_skeletons (world_with (new_marker w x d p) w) p) x ≡ Some d
@@ -124,7 +124,7 @@ marker_part t x d p h = by_test (marker_of (part_skeletons t.world p) x) (is_sub
     by_test None true h = refl
     by_test None false h = refl
 
-pub world_names : (b : Batch) (w : World) → (world_with b w).names ≡ w.names
+pub world_names : (b : EntryBatch) (w : World) → (world_with b w).names ≡ w.names
 world_names nothing w = refl
 world_names (in_coord e) w = refl
 world_names (in_topic p es) w = refl
@@ -132,7 +132,7 @@ world_names (in_sub p e) w = refl
 
 marked_stays : (x : TxnId) (d : Decision) (p : ℕ) (t : TableState) → Stays t (marked x d p t)
 marked_stays x d p t =
-    let b : Batch = marker_batch t x d p in
+    let b : EntryBatch = marker_batch t x d p in
     record { names = world_names b t.world; whole = λ q h. h; markers = choice_markers t.world (world_with b t.world) (flights_with b no_flights) (batch_choice b t.world) }
 
 marked_coord : (x : TxnId) (d : Decision) (p : ℕ) (t : TableState) → (marked x d p t).world.coord ≡ t.world.coord
@@ -260,7 +260,7 @@ way limits rose t request.Stop told t' h = by_row refl refl h
 
 -- the parts that a request uses are whole
 abbrev pub WholeFor : Request → TableState → Type 0
-WholeFor r t = (p : ℕ) → has (uses t.world r) p ≡ true → is_fenced t p ≡ false
+WholeFor r t = (p : ℕ) → has (uses t.world r) p ≡ true → is_unrebuilt t p ≡ false
 
 uses_same : (w w' : World) (r : Request) → w'.names ≡ w.names → uses w' r ≡ uses w r
 uses_same w w' r e = ap (λ names. uses (over names) r) e
@@ -269,12 +269,12 @@ uses_same w w' r e = ap (λ names. uses (over names) r) e
     over names = record { names = names; coord = w'.coord; topics = w'.topics; subs = w'.subs }
 
 -- the batches that the table adds, each with what is known where it adds it
-pub data MayAdd (limits : Limits) (t : TableState) (b : Batch) : Type 0 where
+pub data MayAdd (limits : Limits) (t : TableState) (b : EntryBatch) : Type 0 where
   of_row : (r : Request) → early_refusal limits t.world r ≡ None → late_refusal limits t r ≡ None → WholeFor r t → b ≡ (success_of limits t r).adds → MayAdd limits t b
-  of_decision : (x : TxnId) (d : Decision) → is_fenced t 0 ≡ false → b ≡ decision_batch t x d → MayAdd limits t b
-  of_marker : (x : TxnId) (d : Decision) (p : ℕ) → decision_of (log_of t.world) x ≡ Some d → IsPart t.world x p → is_fenced t p ≡ false → b ≡ marker_batch t x d p → MayAdd limits t b
+  of_decision : (x : TxnId) (d : Decision) → is_unrebuilt t 0 ≡ false → b ≡ decision_batch t x d → MayAdd limits t b
+  of_marker : (x : TxnId) (d : Decision) (p : ℕ) → decision_of (log_of t.world) x ≡ Some d → IsPart t.world x p → is_unrebuilt t p ≡ false → b ≡ marker_batch t x d p → MayAdd limits t b
   of_closing : (x : TxnId) (d : Decision) → closing_of (log_of t.world) x ≡ None → decision_of (log_of t.world) x ≡ Some d
-      → ((p : ℕ) → has (parts_of (log_of t.world) x) p ≡ true → (e : Decision) × (marker_of (part_skeletons t.world p) x ≡ Some e)) → is_fenced t 0 ≡ false → b ≡ closing_batch x d → MayAdd limits t b
+      → ((p : ℕ) → has (parts_of (log_of t.world) x) p ≡ true → (e : Decision) × (marker_of (part_skeletons t.world p) x ≡ Some e)) → is_unrebuilt t 0 ≡ false → b ≡ closing_batch x d → MayAdd limits t b
 
 -- a relation that holds of each move, and of moves one after another
 pub record Moves (limits : Limits) (Goes : TableState → TableState → Type 0) : Type 0 where
@@ -282,8 +282,8 @@ pub record Moves (limits : Limits) (Goes : TableState → TableState → Type 0)
   pub both : (a b c : TableState) → Goes a b → Goes b c → Goes a c
   pub resolves : (p : ℕ) (stays : Bool) (t : TableState) → Goes t (resolved p stays t)
   pub rebuilds : (p : ℕ) (stays : Bool) (t : TableState) → Goes t (rebuilt p stays t)
-  pub adds : (b : Batch) (t : TableState) (given : ℕ → ℕ → Bool) → MayAdd limits t b → Goes t (record (settled b t) { given = given })
-  pub fails : (b : Batch) (p : ℕ) (t : TableState) → batch_part b ≡ Some p → MayAdd limits t b → Goes t (fenced_by b p t)
+  pub adds : (b : EntryBatch) (t : TableState) (given : ℕ → ℕ → Bool) → MayAdd limits t b → Goes t (record (with_batch b t) { given = given })
+  pub fails : (b : EntryBatch) (p : ℕ) (t : TableState) → batch_part b ≡ Some p → MayAdd limits t b → Goes t (with_failed_batch b p t)
   pub hears : (moment : ℕ) (t : TableState) → Goes t (at_moment moment t)
 
 module _ (limits : Limits) (Goes : TableState → TableState → Type 0) (m : Moves limits Goes) where
@@ -291,7 +291,7 @@ module _ (limits : Limits) (Goes : TableState → TableState → Type 0) (m : Mo
   goes_by t t' u e g = subst (Goes t) (sym e) g
 
   pub rebuilds_goes : (p : ℕ) (t t' : TableState) → Rebuilds p t t' → Goes t t'
-  rebuilds_goes p t t' h = by_test (is_fenced t p) h
+  rebuilds_goes p t t' h = by_test (is_unrebuilt t p) h
     where
       by_test : (b : Bool) → MatchBool b ((stays : Bool) × (t' ≡ rebuilt p stays t)) (t' ≡ t) → Goes t t'
       by_test true h = goes_by t t' (rebuilt p h.0 t) h.1 (m.rebuilds p h.0 t)
@@ -301,18 +301,18 @@ module _ (limits : Limits) (Goes : TableState → TableState → Type 0) (m : Mo
   all_go [] t t' h = goes_by t t' t h (m.same t)
   all_go (p ∷ ps) t t' h = m.both t h.0 t' (rebuilds_goes p t h.0 h.1) (all_go ps h.0 t' h.2)
 
-  fenced_goes : (p : ℕ) (t t' : TableState) → StaysFenced p t t' → Goes t t'
-  fenced_goes p t t' h = elim h.1 [ inl e ↦ goes_by t t' t e (m.same t) | inr k ↦ goes_by t t' (resolved p k.0 t) k.1 (m.resolves p k.0 t) ]
+  unrebuilt_goes : (p : ℕ) (t t' : TableState) → StaysUnrebuilt p t t' → Goes t t'
+  unrebuilt_goes p t t' h = elim h.1 [ inl e ↦ goes_by t t' t e (m.same t) | inr k ↦ goes_by t t' (resolved p k.0 t) k.1 (m.resolves p k.0 t) ]
 
   refused_goes : (ps : List ℕ) (p : ℕ) (t t' : TableState) → RefusedAt ps p t t' → Goes t t'
   refused_goes [] p t t' h = absurd h
-  refused_goes (q ∷ qs) p t t' (inl h) = fenced_goes q t t' h.1
+  refused_goes (q ∷ qs) p t t' (inl h) = unrebuilt_goes q t t' h.1
   refused_goes (q ∷ qs) p t t' (inr h) = m.both t h.0 t' (rebuilds_goes q t h.0 h.1) (refused_goes qs p h.0 t' h.2)
 
   -- a part that was rebuilt may get the marker
   may_mark : (x : TxnId) (d : Decision) (p : ℕ) (ps : List ℕ) (t mid : TableState) → Rebuilds p t mid → Ending x d (p ∷ ps) t.world → MayAdd limits mid (marker_batch mid x d p)
   may_mark x d p ps t mid h is =
-      let r : Stays t mid × (is_fenced mid p ≡ false) = rebuilds_stays p t mid h in
+      let r : Stays t mid × (is_unrebuilt mid p ≡ false) = rebuilds_stays p t mid h in
       let here : Ending x d (p ∷ ps) mid.world = ending_still x d (p ∷ ps) t.world mid.world r.0.names (rebuilds_coord p t mid (is.each p (has_head p ps)).0 h) is in
       of_marker x d p here.decided (here.each p (has_head p ps)) r.1 refl
 
@@ -325,11 +325,11 @@ module _ (limits : Limits) (Goes : TableState → TableState → Type 0) (m : Mo
 
   module _ (rose : ℕ → Type 0) where
     stop_goes : (x : TxnId) (d : Decision) (p : ℕ) (ps : List ℕ) (t : TableState) (reason : Why) (t' : TableState) → Ending x d (p ∷ ps) t.world → StopsAt rose x d p t reason t' → Goes t t'
-    stop_goes x d p ps t reason t' is (recovery_fault h r w) = fenced_goes p t t' h
-    stop_goes x d p ps t reason t' is (recovery_memory h w) = fenced_goes p t t' h
+    stop_goes x d p ps t reason t' is (recovery_fault h r w) = unrebuilt_goes p t t' h
+    stop_goes x d p ps t reason t' is (recovery_memory h w) = unrebuilt_goes p t t' h
     stop_goes x d p ps t reason t' is (marker_memory f r n w) = rebuilds_goes p t t' r
     stop_goes x d p ps t reason t' is (marker_fault mid r n z s w) =
-        m.both t mid t' (rebuilds_goes p t mid r) (goes_by mid t' (fenced_by (marker_batch mid x d p) p mid) s (m.fails (marker_batch mid x d p) p mid (marker_part mid x d p n) (may_mark x d p ps t mid r is)))
+        m.both t mid t' (rebuilds_goes p t mid r) (goes_by mid t' (with_failed_batch (marker_batch mid x d p) p mid) s (m.fails (marker_batch mid x d p) p mid (marker_part mid x d p n) (may_mark x d p ps t mid r is)))
 
     stops_go : (x : TxnId) (d : Decision) (ps : List ℕ) (p : ℕ) (t : TableState) (reason : Why) (t' : TableState) → Ending x d ps t.world → StopsWithin rose x d ps p t reason t' → Goes t t'
     stops_go x d [] p t reason t' is h = absurd h
@@ -338,35 +338,35 @@ module _ (limits : Limits) (Goes : TableState → TableState → Type 0) (m : Mo
         m.both t (marked x d q h.0) t' (marked_goes x d q qs t h.0 h.1 is) (stops_go x d qs p (marked x d q h.0) reason t' (marked_same x d q qs t h.0 h.1 is) h.2)
 
     -- where each part has a marker, x may be closed
-    may_close : (x : TxnId) (d : Decision) (t mid : TableState) → is_fenced t 0 ≡ false → closing_of (log_of t.world) x ≡ None → decision_of (log_of t.world) x ≡ Some d
+    may_close : (x : TxnId) (d : Decision) (t mid : TableState) → is_unrebuilt t 0 ≡ false → closing_of (log_of t.world) x ≡ None → decision_of (log_of t.world) x ≡ Some d
         → HaveMarkers x (parts_of (log_of t.world) x) t mid → MayAdd limits mid (closing_batch x d)
     may_close x d t mid whole c k all =
         of_closing x d (ap (λ cs. closing_of (coord_skeletons cs) x) all.coord ∙ c) (ap (λ cs. decision_of (coord_skeletons cs) x) all.coord ∙ k)
         (λ p i. all.stand p (subst (λ cs. has (parts_of (coord_skeletons cs) x) p ≡ true) all.coord i)) (all.stays.whole 0 whole) refl
 
-    drives_go : (x : TxnId) (t : TableState) (outcome : Outcome) (t' : TableState) → is_fenced t 0 ≡ false → Drives rose x t outcome t' → Goes t t'
+    drives_go : (x : TxnId) (t : TableState) (outcome : Outcome) (t' : TableState) → is_unrebuilt t 0 ≡ false → Drives rose x t outcome t' → Goes t t'
     drives_go x t outcome t' whole (already d c o s) = goes_by t t' t s (m.same t)
     drives_go x t outcome t' whole (closes d c k mid h o s) =
         let is : Ending x d (parts_of (log_of t.world) x) t.world = parts_end t.world x d k in
         m.both t mid t' (marks_go x d (parts_of (log_of t.world) x) t mid is h)
-        (goes_by mid t' (settled (closing_batch x d) mid) s (m.adds (closing_batch x d) mid mid.given (may_close x d t mid whole c k (all_marked x d (parts_of (log_of t.world) x) t mid is h))))
+        (goes_by mid t' (with_batch (closing_batch x d) mid) s (m.adds (closing_batch x d) mid mid.given (may_close x d t mid whole c k (all_marked x d (parts_of (log_of t.world) x) t mid is h))))
     drives_go x t outcome t' whole (close_fault d c k mid h f o s) =
         let is : Ending x d (parts_of (log_of t.world) x) t.world = parts_end t.world x d k in
         m.both t mid t' (marks_go x d (parts_of (log_of t.world) x) t mid is h)
-        (goes_by mid t' (fenced_by (closing_batch x d) 0 mid) s (m.fails (closing_batch x d) 0 mid refl (may_close x d t mid whole c k (all_marked x d (parts_of (log_of t.world) x) t mid is h))))
+        (goes_by mid t' (with_failed_batch (closing_batch x d) 0 mid) s (m.fails (closing_batch x d) 0 mid refl (may_close x d t mid whole c k (all_marked x d (parts_of (log_of t.world) x) t mid is h))))
     drives_go x t outcome t' whole (stops d c k p reason h o) = stops_go x d (parts_of (log_of t.world) x) p t reason t' (parts_end t.world x d k) h
 
-    fails_goes : (b : Batch) (t : TableState) (told : Reply) (t' : TableState) → MayAdd limits t b → AppendFails rose b t told t' → Goes t t'
-    fails_goes b t told t' may h = goes_by t t' (fenced_by b h.0 t) h.4 (m.fails b h.0 t h.1 may)
+    fails_goes : (b : EntryBatch) (t : TableState) (told : Reply) (t' : TableState) → MayAdd limits t b → AppendFails rose b t told t' → Goes t t'
+    fails_goes b t told t' may h = goes_by t t' (with_failed_batch b h.0 t) h.4 (m.fails b h.0 t h.1 may)
 
     way_goes : (t : TableState) (r : Request) (told : Reply) (t' : TableState) → early_refusal limits t.world r ≡ None → late_refusal limits t r ≡ None → WholeFor r t → Way limits rose t r told t' → Goes t t'
     way_goes t r told t' e l whole (by_row plain quiet (inl h)) =
-        goes_by t t' (record (settled (success_of limits t r).adds t) { given = (success_of limits t r).given }) h.1 (m.adds (success_of limits t r).adds t (success_of limits t r).given (of_row r e l whole refl))
+        goes_by t t' (record (with_batch (success_of limits t r).adds t) { given = (success_of limits t r).given }) h.1 (m.adds (success_of limits t r).adds t (success_of limits t r).given (of_row r e l whole refl))
     way_goes t r told t' e l whole (by_row plain quiet (inr h)) = fails_goes (success_of limits t r).adds t told t' (of_row r e l whole refl) h
     way_goes t r told t' e l whole (is_idle plain o s) = goes_by t t' t s (m.same t)
     way_goes t r told t' e l whole (by_end x d say quiet plain u (inl h)) =
-        let here : is_fenced t 0 ≡ false = whole 0 (subst (λ ps. has ps 0 ≡ true) (sym u) refl) in
-        m.both t (settled (decision_batch t x d) t) t' (m.adds (decision_batch t x d) t t.given (of_decision x d here refl)) (drives_go x (settled (decision_batch t x d) t) h.0 t' here h.1)
+        let here : is_unrebuilt t 0 ≡ false = whole 0 (subst (λ ps. has ps 0 ≡ true) (sym u) refl) in
+        m.both t (with_batch (decision_batch t x d) t) t' (m.adds (decision_batch t x d) t t.given (of_decision x d here refl)) (drives_go x (with_batch (decision_batch t x d) t) h.0 t' here h.1)
     way_goes t r told t' e l whole (by_end x d say quiet plain u (inr h)) =
         fails_goes (decision_batch t x d) t told t' (of_decision x d (whole 0 (subst (λ ps. has ps 0 ≡ true) (sym u) refl)) refl) h
 
@@ -393,19 +393,19 @@ module _ (limits : Limits) (Goes : TableState → TableState → Type 0) (m : Mo
       by_test true = m.hears moment t
       by_test false = m.same t
 
-  still_goes : (s s' : Standing) → s' ≡ s → Goes s.table s'.table
+  still_goes : (s s' : RunState) → s' ≡ s → Goes s.table s'.table
   still_goes s s' e = subst (λ u. Goes s.table u.table) (sym e) (m.same s.table)
 
-  pub from_goes : (s : Standing) (r : Request) (told : Reply) (s' : Standing) → AnswersFrom limits s r told s' → Goes s.table s'.table
+  pub from_goes : (s : RunState) (r : Request) (told : Reply) (s' : RunState) → AnswersFrom limits s r told s' → Goes s.table s'.table
   from_goes s r told s' (inl h) = still_goes s s' h.1
   from_goes s r told s' (inr h) = m.both s.table (moved r h.0 s.table) s'.table (moved_goes r h.0 s.table) (answers_go (RoseAt s s') (moved r h.0 s.table) r told s'.table h.2)
 
-  line_goes : (s : Standing) (kind : Kind) (told : List Reply) (s' : Standing) → Replied limits s kind told s' → Goes s.table s'.table
+  line_goes : (s : RunState) (kind : LineKind) (told : List Reply) (s' : RunState) → Replied limits s kind told s' → Goes s.table s'.table
   line_goes s too_long told s' h = still_goes s s' h.1
   line_goes s blank told s' h = still_goes s s' h.1
   line_goes s (form None) told s' h = still_goes s s' h.1
   line_goes s (form (Some r)) told s' h = from_goes s r h.0 s' h.2
 
-  pub replies_go : (s : Standing) (kinds : List Kind) (told : List Reply) (s' : Standing) → Replies limits s kinds told s' → Goes s.table s'.table
+  pub replies_go : (s : RunState) (kinds : List LineKind) (told : List Reply) (s' : RunState) → Replies limits s kinds told s' → Goes s.table s'.table
   replies_go s [] told s' h = still_goes s s' h.1
   replies_go s (kind ∷ kinds) told s' h = m.both s.table h.0.table s'.table (line_goes s kind h.1 h.0 h.3) (replies_go h.0 kinds h.2 s' h.4)

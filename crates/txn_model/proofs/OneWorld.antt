@@ -12,18 +12,18 @@ use Rattle.txn_model.proofs.Bools.{no_true}
 use Rattle.txn_model.proofs.Decodings.{coord_of, topic_of_record, ack_of_record}
 
 -- the entries are read off the records
-pub entries_of : {E : Type 0} (is : Record → E → Type 0) (of : Record → E) → ((r : Record) (e : E) → is r e → of r ≡ e) → (rs : List Record) (es : List E) → RecordsOf is rs es → map of rs ≡ es
-entries_of is of one [] [] h = refl
-entries_of is of one [] (e ∷ es) h = absurd h
-entries_of is of one (r ∷ rs) [] h = absurd h
-entries_of is of one (r ∷ rs) (e ∷ es) h = λ i. one r e h.0 i ∷ entries_of is of one rs es h.1 i
+pub entries_of_records : {E : Type 0} (is : Record → E → Type 0) (of : Record → E) → ((r : Record) (e : E) → is r e → of r ≡ e) → (rs : List Record) (es : List E) → RecordsOf is rs es → map of rs ≡ es
+entries_of_records is of one [] [] h = refl
+entries_of_records is of one [] (e ∷ es) h = absurd h
+entries_of_records is of one (r ∷ rs) [] h = absurd h
+entries_of_records is of one (r ∷ rs) (e ∷ es) h = λ i. one r e h.0 i ∷ entries_of_records is of one rs es h.1 i
 
 -- bytes stand for one list of entries
 one_list : {E : Type 0} (is : Record → E → Type 0) (of : Record → E) → ((r : Record) (e : E) → is r e → of r ≡ e) → (bytes : List ℕ) (es es' : List E) → StandsForEntries is bytes es → StandsForEntries is bytes es' → es ≡ es'
 one_list is of one bytes es es' s s' =
-    sym (entries_of is of one (records s.batches) es s.each)
+    sym (entries_of_records is of one (records s.batches) es s.each)
     ∙ ap (λ (bs : List Batch). map of (records bs)) (stands_one bytes s.batches s'.batches s.stands s'.stands)
-    ∙ entries_of is of one (records s'.batches) es' s'.each
+    ∙ entries_of_records is of one (records s'.batches) es' s'.each
 
 -- ---- Lists beside the same parts, each once.
 
@@ -123,7 +123,7 @@ stands_for_one names files a b s t =
 pub entries_of_batches : {E : Type 0} (is : Record → E → Type 0) (of : Record → E) → ((r : Record) (e : E) → is r e → of r ≡ e) → (bytes : List ℕ) (batches : List Batch) (es : List E)
     → StandsForEntries is bytes es → Stands bytes batches → map of (records batches) ≡ es
 entries_of_batches is of one bytes batches es s stands =
-    ap (λ (bs : List Batch). map of (records bs)) (stands_one bytes batches s.batches stands s.stands) ∙ entries_of is of one (records s.batches) es s.each
+    ap (λ (bs : List Batch). map of (records bs)) (stands_one bytes batches s.batches stands s.stands) ∙ entries_of_records is of one (records s.batches) es s.each
 
 pub records_with : {E : Type 0} (is : Record → E → Type 0) (of : Record → E) (rs : List Record) → All (λ r. is r (of r)) rs → RecordsOf is rs (map of rs)
 records_with is of [] all = tt

@@ -1,6 +1,6 @@
 -- What is known of a request that no row refuses.
 use Rattle.std.proofs.Common.{◌≡◌, ℕ, Bool, true, false, ◌&&◌, ◌||◌, not, if◌then◌else◌, List, [], ◌∷◌, Some, None, refl, sym, ap, ◌∙◌, subst}
-use Rattle.txn_model.proofs.Words.{Option, option_map, option_and_then, unwrap_or, is_none, is_some, find, Limits, TxnId, Status, AckEntry, Ack, Request, Refusal, World, when, that, first_said, below, part_of, status_of, in_parts, marker_of, holder_of, is_foreign, log_of, part_skeletons, TableState, named, fits_kind, txn_of, ack_of, adds_inside, number_of, name_in, part_in, ack_list, limit_in, asks, unread_place, conflict, unknown_name, wrong_kind, early_rows, early_refusal, is_not_found, forbids, has_ended, forbidding_status, unregistered, unread_in, acked_in, conflict_in, late_rows, late_refusal}
+use Rattle.txn_model.proofs.Words.{Option, option_map, option_and_then, unwrap_or, is_none, is_some, find, Limits, TxnId, Status, AckEntry, Ack, Request, Refusal, World, when, that, first_said, below, part_of, status_of, in_parts, marker_of, holder_of, is_foreign, log_of, part_skeletons, TableState, named, fits_kind, txn_of, ack_asked, adds_inside, number_of, name_in, part_in, ack_list, limit_in, asks, unread_place, conflict, unknown_name, wrong_kind, early_rows, early_refusal, is_not_found, forbids, has_ended, forbidding_status, unregistered, unread_in, acked_in, conflict_in, late_rows, late_refusal}
 use Rattle.txn_base.specs.declared.reply.Refusal.TheVariants as no
 use Rattle.txn_model.specs.EarlyRows as early_row
 use Rattle.txn_model.proofs.Bools.{no_true, and_r, none_some, some_none}
@@ -149,7 +149,7 @@ inside_known limits t r x is adds p =
     registered_by false b e h = absurd (no_true e)
 
 -- an acknowledgement: its place is read, and nobody else holds what it covers
-pub unread_none : (limits : Limits) (t : TableState) (r : Request) (asked : Ack) → ack_of r ≡ Some asked → Passed limits t r → unread_place (limit_in t.world r) asked ≡ None
+pub unread_none : (limits : Limits) (t : TableState) (r : Request) (asked : Ack) → ack_asked r ≡ Some asked → Passed limits t r → unread_place (limit_in t.world r) asked ≡ None
 unread_none limits t r asked is p = subst (λ o. option_and_then (unread_place (limit_in t.world r)) o ≡ None) is p.read
 
 holder_some : (who : Option TxnId) (o : Option TxnId) → is_foreign who o ≡ true → (y : TxnId) × (o ≡ Some y)
@@ -177,7 +177,7 @@ conflict_none limit a who asked h = by_found (find (λ q. asks asked q && is_for
         let held = holder_some who (holder_of a q) foreign in
         absurd (some_none (subst (λ o. pair_of q o ≡ None) held.1 k))
 
-pub conflict_free : (limits : Limits) (t : TableState) (r : Request) (asked : Ack) → ack_of r ≡ Some asked → Passed limits t r
+pub conflict_free : (limits : Limits) (t : TableState) (r : Request) (asked : Ack) → ack_asked r ≡ Some asked → Passed limits t r
     → find (λ q. asks asked q && is_foreign (txn_of r) (holder_of (ack_list t.world r) q)) (below (limit_in t.world r)) ≡ None
 conflict_free limits t r asked is p =
     conflict_none (limit_in t.world r) (ack_list t.world r) (txn_of r) asked (subst (λ o. option_and_then (conflict (limit_in t.world r) (ack_list t.world r) (txn_of r)) o ≡ None) is p.free)

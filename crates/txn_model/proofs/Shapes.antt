@@ -2,13 +2,13 @@
 use Rattle.std.proofs.Common.{◌≡◌, ℕ, suc, ◌+◌, arith, Bool, true, false, if◌then◌else◌, List, [], ◌∷◌, ◌++◌, length, refl, sym, ap, ◌∙◌, subst, append_assoc}
 use Rattle.std.proofs.Math.Seq.{drop-append_seam}
 use Rattle.std.proofs.lemmas.List.{append-nil}
-use Rattle.txn_model.proofs.Words.{map, is_sub, TopicEntry, AckEntry, World, has, list_at, has_name, Flights, kept, Batch, nothing, in_coord, in_topic, in_sub, world_with, numbered, is_topic, parts_with, Shaped, IsFor, names_with, lists_for, world_named}
+use Rattle.txn_model.proofs.Words.{map, is_sub, TopicEntry, AckEntry, World, has, list_at, has_name, Flights, with_kept, EntryBatch, nothing, in_coord, in_topic, in_sub, world_with, numbered, is_topic, parts_with, Shaped, IsFor, names_with, lists_for, world_named}
 use mathlib.Core.List.{IsPrefix}
 use Rattle.txn_model.proofs.Lists.{parts_with_list, parts_followed}
 use Rattle.txn_model.proofs.Prefixes.{map_append}
 
 -- a batch for a part of its kind
-pub shaped_with : (b : Batch) (w : World) → Shaped w → IsFor b w.names → Shaped (world_with b w)
+pub shaped_with : (b : EntryBatch) (w : World) → Shaped w → IsFor b w.names → Shaped (world_with b w)
 shaped_with nothing w s fits = s
 shaped_with (in_coord e) w s fits = record { topics = s.topics; subs = s.subs }
 shaped_with (in_topic p es) w s fits =
@@ -17,7 +17,7 @@ shaped_with (in_sub p e) w s fits =
     record { topics = s.topics; subs = parts_with_list w.subs p (list_at w.subs p ++ e ∷ []) (subst (λ ps. has ps p ≡ true) (sym s.subs) fits) ∙ s.subs }
 
 -- what a stop keeps
-pub shaped_kept : (w : World) (f : Flights) (stays : ℕ → Bool) → Shaped w → Shaped (kept w f stays)
+pub shaped_kept : (w : World) (f : Flights) (stays : ℕ → Bool) → Shaped w → Shaped (with_kept w f stays)
 shaped_kept w f stays s = record { topics = parts_followed stays f.topics w.topics ∙ s.topics; subs = parts_followed stays f.subs w.subs ∙ s.subs }
 
 -- ---- New names.

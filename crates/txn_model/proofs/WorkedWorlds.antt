@@ -2,7 +2,7 @@
 use Rattle.std.specs.Prelude.{◌≡◌, ◌==◌, ℕ, Bool, true, false, if◌then◌else◌, List, [], ◌∷◌, Some, codes, refl}
 use mathlib.Core.List.{IsPrefix}
 use Rattle.txn_base.specs.Limits.{standard}
-use Rattle.txn_model.proofs.Words.{Limits, Commit, Abort, Committing, CoreEntry, TopicEntry, AckEntry, Transactions, Log, World, part_of, name_of, txn, RegisteredFirst, MarkerDecided, ClosedComplete, Extends, Flights, kept, part_skeletons, early_refusal, late_refusal, table_over, names_with}
+use Rattle.txn_model.proofs.Words.{Limits, Commit, Abort, Committing, CoreEntry, TopicEntry, AckEntry, Transactions, Log, World, part_of, name_of, txn, RegisteredFirst, MarkerDecided, ClosedComplete, Extends, Flights, with_kept, part_skeletons, early_refusal, late_refusal, table_over, names_with}
 use Rattle.txn_base.specs.declared.core_entry.CoreEntry.TheVariants as core
 use Rattle.txn_base.specs.declared.entry.CoordEntry.TheVariants as coord
 use Rattle.txn_base.specs.declared.entry.TopicEntry.TheVariants as topic
@@ -45,7 +45,7 @@ flights =
       subs = λ p. [];
     }
 
-pub topic_is_kept : kept world flights (λ p. p == 1) ≡
+pub topic_is_kept : with_kept world flights (λ p. p == 1) ≡
     record {
       names = world.names;
       coord = world.coord;
@@ -54,7 +54,7 @@ pub topic_is_kept : kept world flights (λ p. p == 1) ≡
     }
 topic_is_kept = refl
 
-pub nothing_is_kept : kept world flights (λ p. false) ≡ world
+pub nothing_is_kept : with_kept world flights (λ p. false) ≡ world
 nothing_is_kept = refl
 
 -- what is kept leaves each list a front of what it is then
@@ -75,7 +75,7 @@ subs_stay : (b : Bool) → IsPrefix (if b then holds else []) (if b then holds e
 subs_stay true = ([], refl)
 subs_stay false = ([], refl)
 
-pub it_grows : Extends world (kept world flights (λ p. true))
+pub it_grows : Extends world (with_kept world flights (λ p. true))
 it_grows =
     record {
       names = ([], refl);

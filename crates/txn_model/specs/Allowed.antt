@@ -10,7 +10,7 @@ use Rattle.txn_model.specs.Coord.{CoordLawful}
 use Rattle.txn_model.specs.Topic.{TopicLawful}
 use Rattle.txn_model.specs.Ack.{AckLawful}
 use Rattle.txn_model.specs.World.{log_of, part_skeletons, RegisteredFirst, MarkerDecided, MarkersStand, Lawful, Flights, no_flights}
-use Rattle.txn_model.specs.Table.{TableState, Batch, nothing, in_coord, in_topic, in_sub, flights_with, is_fenced}
+use Rattle.txn_model.specs.Table.{TableState, EntryBatch, nothing, in_coord, in_topic, in_sub, flights_with, is_unrebuilt}
 use Rattle.txn_model.specs.Shape.{Shaped}
 
 -- The coordinator's log of a world, with the flight behind it.
@@ -32,25 +32,25 @@ pub record AllowedFlights (w : World) (f : Flights) : Type 0 where
   pub closed : MarkersStand (coord_skeletons f.coord) (log_with w f) (part_skeletons w)
 
 -- Over the world w the batch is allowed: alone in flight, it would be.
-abbrev pub IsAllowed : Batch → World → Type 0
+abbrev pub IsAllowed : EntryBatch → World → Type 0
 IsAllowed b w = AllowedFlights w (flights_with b no_flights)
 
 -- In a state, the part of a batch is rebuilt.
-abbrev pub IsWhole : Batch → TableState → Type 0
-IsWhole nothing t = Unit {0}
-IsWhole (in_coord e) t = is_fenced t 0 ≡ false
-IsWhole (in_topic p es) t = is_fenced t p ≡ false
-IsWhole (in_sub p e) t = is_fenced t p ≡ false
+abbrev pub IsPartRebuilt : EntryBatch → TableState → Type 0
+IsPartRebuilt nothing t = Unit {0}
+IsPartRebuilt (in_coord e) t = is_unrebuilt t 0 ≡ false
+IsPartRebuilt (in_topic p es) t = is_unrebuilt t p ≡ false
+IsPartRebuilt (in_sub p e) t = is_unrebuilt t p ≡ false
 
 -- Only a part that isn't rebuilt has a flight.
-pub record FlightsAreFenced (t : TableState) : Type 0 where
-  pub coord : is_fenced t 0 ≡ false → t.flights.coord ≡ []
-  pub topics : (p : ℕ) → is_fenced t p ≡ false → t.flights.topics p ≡ []
-  pub subs : (p : ℕ) → is_fenced t p ≡ false → t.flights.subs p ≡ []
+pub record NoFlightWhereRebuilt (t : TableState) : Type 0 where
+  pub coord : is_unrebuilt t 0 ≡ false → t.flights.coord ≡ []
+  pub topics : (p : ℕ) → is_unrebuilt t p ≡ false → t.flights.topics p ≡ []
+  pub subs : (p : ℕ) → is_unrebuilt t p ≡ false → t.flights.subs p ≡ []
 
 -- A state of the table is lawful where its world is, has its shape, and its flights are allowed.
 pub record LawfulState (t : TableState) : Type 0 where
   pub shaped : Shaped t.world
   pub lawful : Lawful t.world
   pub flights : AllowedFlights t.world t.flights
-  pub fenced : FlightsAreFenced t
+  pub unrebuilt : NoFlightWhereRebuilt t

@@ -17,7 +17,7 @@ use Rattle.txn_model.specs.declared.world.World.{World}
 use Rattle.txn_base.specs.Names.{topic_of}
 use Rattle.txn_model.specs.Names.{name_of}
 use Rattle.txn_model.specs.Deadlines.{first_due, first_undriven, left_of}
-use Rattle.txn_model.specs.Table.{TableState, Batch, batch_part, settled, fenced_by, at_moment, decision_batch}
+use Rattle.txn_model.specs.Table.{TableState, EntryBatch, batch_part, with_batch, with_failed_batch, at_moment, decision_batch}
 use Rattle.txn_model.specs.Requests.{number_of}
 use Rattle.txn_model.specs.EarlyRows.{early_refusal}
 use Rattle.txn_model.specs.LateRows.{late_refusal}
@@ -43,8 +43,8 @@ abbrev pub fault_of : TableState → ℕ → Reply
 fault_of t p = reply.No (no.Fault (name_of t.world.names p))
 
 -- The append of a batch failed: the batch is in flight, its part isn't rebuilt, and the part's fault is told.
-abbrev pub AppendFails : (ℕ → Type 0) → Batch → TableState → Reply → TableState → Type 0
-AppendFails rose batch t told t' = (p : ℕ) × (batch_part batch ≡ Some p) × rose p × (told ≡ fault_of t p) × (t' ≡ fenced_by batch p t)
+abbrev pub AppendFails : (ℕ → Type 0) → EntryBatch → TableState → Reply → TableState → Type 0
+AppendFails rose batch t told t' = (p : ℕ) × (batch_part batch ≡ Some p) × rose p × (told ≡ fault_of t p) × (t' ≡ with_failed_batch batch p t)
 
 -- The topic that a request reads from.
 abbrev pub read_topic : World → Request → Option ℕ
@@ -58,11 +58,11 @@ ReadFails rose t r told t' = (p : ℕ) × (read_topic t.world r ≡ Some p) × r
 
 -- A request does what its row says: its entries are settled, its reply is told.
 abbrev pub Fulfils : Success → TableState → Reply → TableState → Type 0
-Fulfils s t told t' = (told ≡ s.reply) × (t' ≡ record (settled s.adds t) { given = s.given })
+Fulfils s t told t' = (told ≡ s.reply) × (t' ≡ record (with_batch s.adds t) { given = s.given })
 
 -- The decision d of x is logged if x is open, and x is driven.
 abbrev pub Ends : (ℕ → Type 0) → TableState → TxnId → Decision → Outcome → TableState → Type 0
-Ends rose t x d outcome t' = Drives rose x (settled (decision_batch t x d) t) outcome t'
+Ends rose t x d outcome t' = Drives rose x (with_batch (decision_batch t x d) t) outcome t'
 
 -- A tick with nothing to do; one that ends or drives x, and then counts what is left.
 abbrev pub tick_reply : TableState → Option (TxnId × Outcome) → Reply

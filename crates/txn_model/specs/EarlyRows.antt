@@ -9,7 +9,7 @@ use Rattle.txn_base.specs.declared.reply.Refusal.TheVariants as no
 use Rattle.txn_model.specs.declared.world.World.{World}
 use Rattle.txn_model.specs.Words.{when, that, first_said}
 use Rattle.txn_model.specs.Names.{part_of}
-use Rattle.txn_model.specs.Requests.{named, fits_kind, txn_of, ack_of}
+use Rattle.txn_model.specs.Requests.{named, fits_kind, txn_of, ack_asked}
 use Rattle.txn_model.specs.AckRules.{has_bad_places}
 
 abbrev pub is_stop : Request → Bool
@@ -44,7 +44,7 @@ is_too_big limits _ = false
 
 -- An acknowledgement whose list of places is empty or too long.
 abbrev pub lists_bad_places : Limits → Request → Bool
-lists_bad_places limits r = is_some (that (has_bad_places limits) (ack_of r))
+lists_bad_places limits r = is_some (that (has_bad_places limits) (ack_asked r))
 
 -- The rows in their order. The first that comes is the answer.
 abbrev pub early_rows : Limits → World → Request → List (Option Refusal)

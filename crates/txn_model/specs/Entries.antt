@@ -7,10 +7,10 @@ use Rattle.txn_base.specs.declared.entry.TopicEntry.{TopicEntry}
 use Rattle.txn_base.specs.declared.entry.TopicEntry.TheVariants as topic
 
 -- The bytes of a message, which are none for a marker.
-abbrev pub body_of : TopicEntry → List ℕ
-body_of (topic.Plain body) = body.bytes
-body_of (topic.Opened x body) = body.bytes
-body_of _ = []
+abbrev pub message_body : TopicEntry → List ℕ
+message_body (topic.Plain body) = body.bytes
+message_body (topic.Opened x body) = body.bytes
+message_body _ = []
 
 -- The transaction of a message, which is none for a plain one and for a marker.
 abbrev pub inside_of : TopicEntry → Option TxnId
@@ -27,4 +27,4 @@ abbrev pub message_at : ℕ → List ℕ → Message
 message_at k body = record { place = k; body = body }
 
 abbrev pub message_of : ℕ → TopicEntry → Message
-message_of k e = message_at k (body_of e)
+message_of k e = message_at k (message_body e)

@@ -19,7 +19,7 @@ use Rattle.txn_model.specs.Coord.{status_of, in_parts, is_open}
 use Rattle.txn_model.specs.Topic.{marker_of}
 use Rattle.txn_model.specs.World.{log_of, part_skeletons}
 use Rattle.txn_model.specs.Table.{TableState}
-use Rattle.txn_model.specs.Requests.{txn_of, ack_of, adds_inside, number_of, name_in, part_in, topic_list, ack_list, limit_in}
+use Rattle.txn_model.specs.Requests.{txn_of, ack_asked, adds_inside, number_of, name_in, part_in, topic_list, ack_list, limit_in}
 use Rattle.txn_model.specs.AckRules.{unread_place, acked_place, conflict, new_places, newly_held, acks_added}
 use Rattle.txn_model.specs.Full.{full_transactions, full_held, full_log}
 use Rattle.txn_model.specs.Delivery.{deliverable}
@@ -58,20 +58,20 @@ unregistered w r = option_and_then (λ x. when (adds_inside r && not (in_parts (
 
 -- For an acknowledgement, the place that isn't read yet, the one that is acknowledged, the conflict.
 abbrev pub unread_in : World → Request → Option ℕ
-unread_in w r = option_and_then (unread_place (limit_in w r)) (ack_of r)
+unread_in w r = option_and_then (unread_place (limit_in w r)) (ack_asked r)
 
 abbrev pub acked_in : World → Request → Option ℕ
-acked_in w r = option_and_then (acked_place (ack_list w r) (txn_of r)) (ack_of r)
+acked_in w r = option_and_then (acked_place (ack_list w r) (txn_of r)) (ack_asked r)
 
 abbrev pub conflict_in : World → Request → Option (ℕ × TxnId)
-conflict_in w r = option_and_then (conflict (limit_in w r) (ack_list w r) (txn_of r)) (ack_of r)
+conflict_in w r = option_and_then (conflict (limit_in w r) (ack_list w r) (txn_of r)) (ack_asked r)
 
 -- For an acknowledgement, the entries that it adds, and how many places it newly holds one by one.
 abbrev pub acks_in : World → Request → List AckEntry
-acks_in w r = unwrap_or (option_map (acks_added (limit_in w r) (ack_list w r) (txn_of r)) (ack_of r)) []
+acks_in w r = unwrap_or (option_map (acks_added (limit_in w r) (ack_list w r) (txn_of r)) (ack_asked r)) []
 
 abbrev pub newly_held_in : World → Request → ℕ
-newly_held_in w r = unwrap_or (option_map (λ asked. newly_held (txn_of r) asked (new_places (limit_in w r) (ack_list w r) asked)) (ack_of r)) 0
+newly_held_in w r = unwrap_or (option_map (λ asked. newly_held (txn_of r) asked (new_places (limit_in w r) (ack_list w r) asked)) (ack_asked r)) 0
 
 -- What is full of the transactions, of the places that are held one by one, and of the list that a request adds to.
 abbrev pub transactions_in : Limits → TableState → Request → Option ℕ

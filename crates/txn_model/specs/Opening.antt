@@ -37,7 +37,7 @@ no_world = record { names = []; coord = []; topics = []; subs = [] }
 
 -- The table over a world, where nothing was told yet.
 abbrev pub table_over : World → TableState
-table_over w = record { world = w; flights = no_flights; fenced = nowhere; latest = 0; opened_low = low_of w.coord; given = λ s. nowhere }
+table_over w = record { world = w; flights = no_flights; unrebuilt = nowhere; latest = 0; opened_low = low_of w.coord; given = λ s. nowhere }
 
 -- The table over empty lists of parts with these names.
 abbrev pub fresh : List (List ℕ) → TableState

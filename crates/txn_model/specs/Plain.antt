@@ -14,7 +14,7 @@ use Rattle.txn_base.specs.declared.reply.Reply.TheVariants as reply
 use Rattle.txn_base.specs.declared.reply.Refusal.{Refusal}
 use Rattle.txn_model.specs.Coord.{decision_of, closing_of, parts_of, closed}
 use Rattle.txn_model.specs.World.{log_of}
-use Rattle.txn_model.specs.Table.{TableState, settled, decision_batch, closing_batch, marked}
+use Rattle.txn_model.specs.Table.{TableState, with_batch, decision_batch, closing_batch, marked}
 use Rattle.txn_model.specs.EarlyRows.{early_refusal}
 use Rattle.txn_model.specs.LateRows.{late_refusal}
 use Rattle.txn_model.specs.Successes.{Success, success_of}
@@ -29,7 +29,7 @@ all_marked x d (p ∷ ps) t = all_marked x d ps (marked x d p t)
 -- The drive of x to its close, by how it is closed already and how it is decided: nothing where it is closed.
 abbrev pub drive_by : TxnId → TableState → Option Decision → Option Decision → Outcome × TableState
 drive_by x t (Some d) decision = (ended (closed d), t)
-drive_by x t None (Some d) = (ended (closed d), settled (closing_batch x d) (all_marked x d (parts_of (log_of t.world) x) t))
+drive_by x t None (Some d) = (ended (closed d), with_batch (closing_batch x d) (all_marked x d (parts_of (log_of t.world) x) t))
 drive_by x t None None = (ended Open, t)
 
 abbrev pub drive_of : TxnId → TableState → Outcome × TableState
@@ -37,7 +37,7 @@ drive_of x t = drive_by x t (closing_of (log_of t.world) x) (decision_of (log_of
 
 -- The end of x by d: the decision is logged if x is open, and x is driven.
 abbrev pub end_of : TableState → TxnId → Decision → Outcome × TableState
-end_of t x d = drive_of x (settled (decision_batch t x d) t)
+end_of t x d = drive_of x (with_batch (decision_batch t x d) t)
 
 abbrev pub after_end : Decision → Outcome × TableState → Reply × TableState
 after_end d done = (reply.Ended d done.0, done.1)
@@ -50,7 +50,7 @@ after_tick t None = (tick_reply t None, t)
 after_tick t (Some x) = after_drive x (end_of t x Abort)
 
 abbrev pub after_success : Success → TableState → Reply × TableState
-after_success s t = (s.reply, record (settled s.adds t) { given = s.given })
+after_success s t = (s.reply, record (with_batch s.adds t) { given = s.given })
 
 abbrev pub plain_success : Limits → TableState → Request → Reply × TableState
 plain_success limits t (request.Commit x) = after_end Commit (end_of t x Commit)

@@ -15,53 +15,53 @@ use Rattle.txn_model.specs.Answers.{AnswersAt, reads_clock}
 
 -- What stands between two lines: the table, the moments that the clock has to tell where it tells them, the disk's
 -- count of faults, and that of each part.
-pub record Standing : Type 0 where
+pub record RunState : Type 0 where
   pub table : TableState
   pub moments : Option (List ℕ)
   pub faults : ℕ
   pub faults_of : ℕ → ℕ
 
 -- From s to s', the disk's count and that of the part p rose.
-abbrev pub RoseAt : Standing → Standing → ℕ → Type 0
+abbrev pub RoseAt : RunState → RunState → ℕ → Type 0
 RoseAt s s' p = Rose s.faults s'.faults × Rose (s.faults_of p) (s'.faults_of p)
 
 -- From s to s', no count fell.
-pub record NoneFell (s s' : Standing) : Type 0 where
+pub record NoneFell (s s' : RunState) : Type 0 where
   pub faults : s.faults ≤ s'.faults
   pub faults_of : (p : ℕ) → s.faults_of p ≤ s'.faults_of p
 
 -- A line: too long, without anything, or one whose form gives a request or none.
-pub data Kind : Type 0 where
-  too_long : Kind
-  blank : Kind
-  form : Option Request → Kind
+pub data LineKind : Type 0 where
+  too_long : LineKind
+  blank : LineKind
+  form : Option Request → LineKind
 
 -- What a line is, where `request_of` gives the request of a form, and a line may have so many bytes.
-abbrev pub kind_of : (List ℕ → Option Request) → Limits → List ℕ → Kind
-kind_of request_of limits line = if nat_lt limits.line (length line) then too_long else (if is_blank line then blank else form (request_of line))
+abbrev pub line_kind_of : (List ℕ → Option Request) → Limits → List ℕ → LineKind
+line_kind_of request_of limits line = if nat_lt limits.line (length line) then too_long else (if is_blank line then blank else form (request_of line))
 
 -- From s, a request may be told this, and leave s'. It is told so at the next moment where it reads the clock; or
 -- memory ran out before, and nothing changed.
 abbrev pub TellsFor : Request → Option (List ℕ) → ℕ → Option (List ℕ) → Type 0
 TellsFor r moments m moments' = MatchBool (reads_clock r) (TellsMoment moments m moments') (moments' ≡ moments)
 
-abbrev pub AnswersFrom : Limits → Standing → Request → Reply → Standing → Type 0
+abbrev pub AnswersFrom : Limits → RunState → Request → Reply → RunState → Type 0
 AnswersFrom limits s r told s' =
     ((told ≡ reply.No no.NoMemory) × (s' ≡ s))
     ⊎ ((m : ℕ) × TellsFor r s.moments m s'.moments × AnswersAt limits (RoseAt s s') s.table r m told s'.table × NoneFell s s')
 
 -- From s, a line of this kind may be told this, and leave s'. A blank line is told nothing.
-abbrev pub Replied : Limits → Standing → Kind → List Reply → Standing → Type 0
+abbrev pub Replied : Limits → RunState → LineKind → List Reply → RunState → Type 0
 Replied limits s too_long told s' = (told ≡ reply.No no.TooLong ∷ []) × (s' ≡ s)
 Replied limits s blank told s' = (told ≡ []) × (s' ≡ s)
 Replied limits s (form None) told s' = ((told ≡ reply.No no.BadLine ∷ []) ⊎ (told ≡ reply.No no.NoMemory ∷ [])) × (s' ≡ s)
 Replied limits s (form (Some r)) told s' = (one : Reply) × (told ≡ one ∷ []) × AnswersFrom limits s r one s'
 
 -- From s, lines of these kinds may be told this, one after another, and leave s'.
-abbrev pub Replies : Limits → Standing → List Kind → List Reply → Standing → Type 0
+abbrev pub Replies : Limits → RunState → List LineKind → List Reply → RunState → Type 0
 Replies limits s [] told s' = (told ≡ []) × (s' ≡ s)
 Replies limits s (kind ∷ kinds) told s' =
-    (mid : Standing) × (first rest : List Reply) × Replied limits s kind first mid × Replies limits mid kinds rest s' × (told ≡ first ++ rest)
+    (mid : RunState) × (first rest : List Reply) × Replied limits s kind first mid × Replies limits mid kinds rest s' × (told ≡ first ++ rest)
 
 -- An end was stopped by a fault.
 abbrev pub is_fault_why : Why → Bool

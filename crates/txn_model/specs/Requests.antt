@@ -43,10 +43,10 @@ txn_of (request.Status x) = Some x
 txn_of _ = None
 
 -- What a request acknowledges.
-abbrev pub ack_of : Request → Option Ack
-ack_of (request.Ack sub who places) = Some (These places)
-ack_of (request.AckUpTo sub who place) = Some (UpTo place)
-ack_of _ = None
+abbrev pub ack_asked : Request → Option Ack
+ack_asked (request.Ack sub who places) = Some (These places)
+ack_asked (request.AckUpTo sub who place) = Some (UpTo place)
+ack_asked _ = None
 
 -- A request adds a message or a hold where it names a transaction.
 abbrev pub adds_inside : Request → Bool

@@ -3,7 +3,7 @@ use Rattle.std.specs.Prelude.{◌≡◌, ℕ, suc, not, Bool, true, if◌then◌
 use Rattle.txn_base.specs.Names.{is_sub}
 use Rattle.txn_model.specs.declared.world.World.{World}
 use Rattle.txn_model.specs.Words.{has}
-use Rattle.txn_model.specs.Table.{Batch, nothing, in_coord, in_topic, in_sub}
+use Rattle.txn_model.specs.Table.{EntryBatch, nothing, in_coord, in_topic, in_sub}
 
 -- From k on, the numbers of those of these names that pass the test.
 abbrev pub numbered : (List ℕ → Bool) → ℕ → List (List ℕ) → List ℕ
@@ -32,7 +32,7 @@ pub record Shaped (w : World) : Type 0 where
   pub subs : parts_with w.subs ≡ sub_parts w.names
 
 -- By these names, a batch is for a part of its kind.
-abbrev pub IsFor : Batch → List (List ℕ) → Type 0
+abbrev pub IsFor : EntryBatch → List (List ℕ) → Type 0
 IsFor nothing names = Unit {0}
 IsFor (in_coord e) names = Unit {0}
 IsFor (in_topic p es) names = has (topic_parts names) p ≡ true

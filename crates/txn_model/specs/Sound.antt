@@ -8,7 +8,7 @@ use Rattle.txn_base.specs.Frames.{Record, Batch, records, Stands}
 use Rattle.txn_base.specs.Records.{IsCoordRecord, IsTopicRecord, IsAckRecord}
 use Rattle.txn_model.specs.declared.world.World.{World}
 use Rattle.txn_model.specs.Words.{has, list_at}
-use Rattle.txn_model.specs.World.{Lawful, Flights, kept}
+use Rattle.txn_model.specs.World.{Lawful, Flights, with_kept}
 use Rattle.txn_model.specs.Shape.{topic_parts, sub_parts, Shaped}
 
 -- The file of this row of the part p; its ledger is that of row 2.
@@ -56,7 +56,7 @@ Sound names files = (w : World) × StandsFor names files w × Lawful w
 
 -- With these names, the files stand for what a stop keeps of the world w and the flights f.
 abbrev pub StandsForKept : List (List ℕ) → Files → World → Flights → Type 0
-StandsForKept names files w f = (stays : ℕ → Bool) × StandsFor names files (kept w f stays)
+StandsForKept names files w f = (stays : ℕ → Bool) × StandsFor names files (with_kept w f stays)
 
 -- By what `is` says, these bytes stand for these entries, or for them with the flight behind them.
 abbrev pub StandsForEither : {E : Type 0} → (Record → E → Type 0) → List ℕ → List E → List E → Type 0

@@ -17,18 +17,18 @@ use Rattle.txn_model.specs.Deadlines.{txn}
 use Rattle.txn_model.specs.Entries.{message_entry}
 use Rattle.txn_model.specs.Topic.{limit_of, read_slice}
 use Rattle.txn_model.specs.World.{log_of}
-use Rattle.txn_model.specs.Table.{TableState, Batch, nothing, in_coord, in_topic, in_sub}
+use Rattle.txn_model.specs.Table.{TableState, EntryBatch, nothing, in_coord, in_topic, in_sub}
 use Rattle.txn_model.specs.Requests.{number_of}
 use Rattle.txn_model.specs.Delivery.{given_with}
 use Rattle.txn_model.specs.LateRows.{acks_in, deliverable_in}
 
 pub record Success : Type 0 where
-  pub adds : Batch
+  pub adds : EntryBatch
   pub reply : Reply
   pub given : ℕ → ℕ → Bool
 
 -- The batch is added and this is told; only this is told; this is told and these places are delivered.
-abbrev pub adding : TableState → Batch → Reply → Success
+abbrev pub adding : TableState → EntryBatch → Reply → Success
 adding t batch told = record { adds = batch; reply = told; given = t.given }
 
 abbrev pub only : TableState → Reply → Success
@@ -38,7 +38,7 @@ abbrev pub giving : (ℕ → ℕ → Bool) → Reply → Success
 giving given told = record { adds = nothing; reply = told; given = given }
 
 -- The batch of these entries for the subscription p, of which there is one or none.
-abbrev pub acks_batch : ℕ → List AckEntry → Batch
+abbrev pub acks_batch : ℕ → List AckEntry → EntryBatch
 acks_batch p [] = nothing
 acks_batch p (e ∷ es) = in_sub p e
 

@@ -84,8 +84,8 @@ followed stays flights [] = []
 followed stays flights (l ∷ ls) = (l.0, if stays l.0 then l.1 ++ flights l.0 else l.1) ∷ followed stays flights ls
 
 -- What a stop keeps of the world w and the flights f: those of the parts that `stays` names, each whole.
-abbrev pub kept : World → Flights → (ℕ → Bool) → World
-kept w f stays =
+abbrev pub with_kept : World → Flights → (ℕ → Bool) → World
+with_kept w f stays =
     record {
       names = w.names;
       coord = if stays 0 then w.coord ++ f.coord else w.coord;

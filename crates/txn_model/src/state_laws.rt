@@ -9,15 +9,15 @@ ghost use Rattle.txn_model.specs.declared.world.World.{World};
 ghost use Rattle.txn_model.specs.Names.{NamesLawful};
 ghost use Rattle.txn_model.specs.Coord.{decision_of, closing_of, in_parts};
 ghost use Rattle.txn_model.specs.Topic.{marker_of};
-ghost use Rattle.txn_model.specs.World.{log_of, part_skeletons, Lawful, kept};
-ghost use Rattle.txn_model.specs.Table.{TableState, Batch, batch_part, settled, fenced_by, resolved, rebuilt, decision_batch, marker_batch, closing_batch};
+ghost use Rattle.txn_model.specs.World.{log_of, part_skeletons, Lawful, with_kept};
+ghost use Rattle.txn_model.specs.Table.{TableState, EntryBatch, batch_part, with_batch, with_failed_batch, resolved, rebuilt, decision_batch, marker_batch, closing_batch};
 ghost use Rattle.txn_model.specs.Shape.{Shaped, IsFor};
 ghost use Rattle.txn_model.specs.EarlyRows.{early_refusal};
 ghost use Rattle.txn_model.specs.LateRows.{late_refusal};
 ghost use Rattle.txn_model.specs.Successes.{success_of};
-ghost use Rattle.txn_model.specs.Replies.{Standing, Kind, AnswersFrom, Replies};
+ghost use Rattle.txn_model.specs.Replies.{RunState, LineKind, AnswersFrom, Replies};
 ghost use Rattle.txn_model.specs.Opening.{names_with, first_state};
-ghost use Rattle.txn_model.specs.Allowed.{IsAllowed, IsWhole, LawfulState};
+ghost use Rattle.txn_model.specs.Allowed.{IsAllowed, IsPartRebuilt, LawfulState};
 
 /// Whatever lines are told, and whatever of the flights a stop keeps, the world stays lawful and keeps its shape.
 pub fn states_stay_lawful()
@@ -25,11 +25,11 @@ pub fn states_stay_lawful()
     ensures first { (w : World) (words : List (List ℕ)) → NamesLawful (names_with w.names words) → Shaped w → Lawful w → LawfulState (first_state w words) }
 
     // One request, and lines one after another.
-    ensures request { (limits : Limits) (s : Standing) (r : Request) (told : Reply) (s' : Standing) → LawfulState s.table → AnswersFrom limits s r told s' → LawfulState s'.table }
-    ensures lines { (limits : Limits) (s : Standing) (kinds : List Kind) (told : List Reply) (s' : Standing) → LawfulState s.table → Replies limits s kinds told s' → LawfulState s'.table }
+    ensures request { (limits : Limits) (s : RunState) (r : Request) (told : Reply) (s' : RunState) → LawfulState s.table → AnswersFrom limits s r told s' → LawfulState s'.table }
+    ensures lines { (limits : Limits) (s : RunState) (kinds : List LineKind) (told : List Reply) (s' : RunState) → LawfulState s.table → Replies limits s kinds told s' → LawfulState s'.table }
 
     // What a stop keeps.
-    ensures kept { (t : TableState) (stays : ℕ → Bool) → LawfulState t → Lawful (kept t.world t.flights stays) }
+    ensures kept { (t : TableState) (stays : ℕ → Bool) → LawfulState t → Lawful (with_kept t.world t.flights stays) }
 {}
 
 /// What the table adds is allowed over a lawful world, and is for a part of its kind.
@@ -52,13 +52,13 @@ pub fn granted_batches_are_allowed()
 /// The table's changes keep its state lawful, one by one.
 pub fn changes_keep_states_lawful()
     // An allowed batch is settled, or its append failed.
-    ensures settled { (b : Batch) (t : TableState) → LawfulState t → IsFor b t.world.names → IsWhole b t → IsAllowed b t.world → LawfulState (settled b t) }
-    ensures fenced { (b : Batch) (p : ℕ) (t : TableState) → batch_part b ≡ Some p → LawfulState t → IsAllowed b t.world → LawfulState (fenced_by b p t) }
+    ensures settled { (b : EntryBatch) (t : TableState) → LawfulState t → IsFor b t.world.names → IsPartRebuilt b t → IsAllowed b t.world → LawfulState (with_batch b t) }
+    ensures failed { (b : EntryBatch) (p : ℕ) (t : TableState) → batch_part b ≡ Some p → LawfulState t → IsAllowed b t.world → LawfulState (with_failed_batch b p t) }
 
     // The flight of a part is kept or dropped, and the part is rebuilt.
     ensures resolved { (p : ℕ) (stays : Bool) (t : TableState) → LawfulState t → LawfulState (resolved p stays t) }
     ensures rebuilt { (p : ℕ) (stays : Bool) (t : TableState) → LawfulState t → LawfulState (rebuilt p stays t) }
 
     // Moments, delivered places and the opening low watermark are no matter.
-    ensures same { (t t' : TableState) → t'.world ≡ t.world → t'.flights ≡ t.flights → t'.fenced ≡ t.fenced → LawfulState t → LawfulState t' }
+    ensures same { (t t' : TableState) → t'.world ≡ t.world → t'.flights ≡ t.flights → t'.unrebuilt ≡ t.unrebuilt → LawfulState t → LawfulState t' }
 {}

@@ -25,11 +25,11 @@ no_pieces zero = refl
 no_pieces (suc n) = refl
 
 -- the record at a place, and that it has some ends
-pub record_at : (n : ℕ) (ends : List (TxnId × Decision)) (i : ℕ) (d : Record) → i < length (ends_records n ends) → get_or (ends_records n ends) i d ≡ ends_record (ends_piece ends i)
-record_at zero ends i d below = absurd (omega arith)
-record_at (suc n) [] i d below = absurd (omega arith)
-record_at (suc n) (end ∷ ends) zero d below = refl
-record_at (suc n) (end ∷ ends) (suc i) d below = record_at n (drop 3000 (end ∷ ends)) i d (omega arith)
+pub ends_record_at : (n : ℕ) (ends : List (TxnId × Decision)) (i : ℕ) (d : Record) → i < length (ends_records n ends) → get_or (ends_records n ends) i d ≡ ends_record (ends_piece ends i)
+ends_record_at zero ends i d below = absurd (omega arith)
+ends_record_at (suc n) [] i d below = absurd (omega arith)
+ends_record_at (suc n) (end ∷ ends) zero d below = refl
+ends_record_at (suc n) (end ∷ ends) (suc i) d below = ends_record_at n (drop 3000 (end ∷ ends)) i d (omega arith)
 
 pub some_left : (n : ℕ) (ends : List (TxnId × Decision)) (i : ℕ) → i < length (ends_records n ends) → 3000 * i < length ends
 some_left zero ends i below = absurd (omega arith)
@@ -126,7 +126,7 @@ pieces_more contents i total count found after bytes below few at reads count_is
       agrees = λ ends fit counted are.
           let due = piece_due contents i total found ends below reads fit counted are in
           let same : ends_record adds.ends ≡ ends_record (ends_piece ends i) =
-          sym adds.bytes_are ∙ at ∙ ap (λ (l : List Record). get_or l i bytes) are ∙ record_at 63 ends i bytes (omega (arith, below, ap length are)) in
+          sym adds.bytes_are ∙ at ∙ ap (λ (l : List Record). get_or l i bytes) are ∙ ends_record_at 63 ends i bytes (omega (arith, below, ap length are)) in
           let piece : adds.ends ≡ ends_piece ends i = ends_one adds.ends (ends_piece ends i) adds.each (piece_fits ends i fit) same in
           adds.after_is ∙ ap (λ (l : List (TxnId × Decision)). l ++ adds.ends) (reads.agrees ends fit counted are)
           ∙ ap (λ (l : List (TxnId × Decision)). take (3000 * i) ends ++ l) (piece ∙ piece_is ends i) ∙ joined i ends (omega (arith, due.0, due.1, counted));
@@ -155,7 +155,7 @@ piece_taken ends behind front i count is_behind is_count is_front =
 
 -- the record of a piece stands behind the head and those before it
 pub record_behind : (snap : Snapshot) (i : ℕ) → i < length (ends_records 63 snap.ends) → get_or (snapshot_batch snap) (i + 1) [] ≡ ends_record (ends_piece snap.ends i)
-record_behind snap i below = ap (λ (n : ℕ). get_or (snapshot_batch snap) n []) (add-one i) ∙ record_at 63 snap.ends i [] below
+record_behind snap i below = ap (λ (n : ℕ). get_or (snapshot_batch snap) n []) (add-one i) ∙ ends_record_at 63 snap.ends i [] below
 
 -- the bytes of an item are the item of the bytes
 pub item_at : (items : List Roomy) (i : ℕ) (item : Roomy) (bytes : Record) → i < length items → item ≡ get_or items i item → bytes ≡ item.bytes → bytes ≡ get_or (contents_of items) i bytes

@@ -9,7 +9,7 @@ use Rattle.txn_base.specs.Bytes.{only_bytes}
 use Rattle.txn_base.specs.Decoded.{topic_entry_of}
 use Rattle.txn_base.specs.Entries.{bare}
 use Rattle.txn_base.specs.Records.{IsTopicRecord, IsTopicEntry, IsTxnId, topic_record}
-use Rattle.txn_records.specs.Topics.{marker_of, topic_skeleton, TopicRecordsDecode, TopicRecordsAreOne, TopicRecordsReadBack}
+use Rattle.txn_records.specs.Topics.{marker_entry, topic_skeleton, TopicRecordsDecode, TopicRecordsAreOne, TopicRecordsReadBack}
 use Rattle.txn_records.proofs.Numbers.{txn_read}
 
 -- the entry of a message's record, whatever its body
@@ -17,7 +17,7 @@ pub opened_decoded : (version : ℕ) (x : TxnId) (body : List ℕ) → IsTxnId x
 opened_decoded version x body is = ap (λ (y : TxnId). topic.Opened y (only_bytes body)) (txn_read x body is)
 
 -- the entry of a marker's record
-pub marker_decoded : (version : ℕ) (x : TxnId) (end : Decision) → IsTopicEntry (marker_of x end) → topic_entry_of (topic_record version (marker_of x end)) ≡ marker_of x end
+pub marker_decoded : (version : ℕ) (x : TxnId) (end : Decision) → IsTopicEntry (marker_entry x end) → topic_entry_of (topic_record version (marker_entry x end)) ≡ marker_entry x end
 marker_decoded version x decision.Commit is = ap topic.Commit (txn_read x [] is)
 marker_decoded version x decision.Abort is = ap topic.Abort (txn_read x [] is)
 

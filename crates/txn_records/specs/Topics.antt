@@ -36,9 +36,9 @@ message_body (topic.Commit x) = []
 message_body (topic.Abort x) = []
 
 -- The marker that ends a transaction so.
-abbrev pub marker_of : TxnId → Decision → TopicEntry
-marker_of x decision.Commit = topic.Commit x
-marker_of x decision.Abort = topic.Abort x
+abbrev pub marker_entry : TxnId → Decision → TopicEntry
+marker_entry x decision.Commit = topic.Commit x
+marker_entry x decision.Abort = topic.Abort x
 
 -- The entry whose body was read in place.
 abbrev pub entry_in_place : InPlace → TopicEntry

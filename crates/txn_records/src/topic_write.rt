@@ -6,7 +6,7 @@ ghost use Rattle.txn_base.specs.Decoded.{topic_entry_of};
 ghost use Rattle.txn_base.specs.Entries.{bare};
 ghost use Rattle.txn_base.specs.Records.{IsTxnId, IsTopicEntry, IsTopicRecord, topic_record};
 ghost use Rattle.txn_base.specs.Room.{capacity};
-ghost use Rattle.txn_records.specs.Topics.{marker_of};
+ghost use Rattle.txn_records.specs.Topics.{marker_entry};
 
 use crate::fields::{put_head, put_named};
 use std::alloc::{AllocError, Global};
@@ -40,10 +40,10 @@ pub fn opened_record(alloc: Global, txn: TxnId, body: &[u8]) -> Result<Bytes, Al
 /// Adds the record of a marker into the free room: a commit marker or an abort marker. It takes no memory.
 pub fn put_marker(txn: TxnId, decision: Decision, out: &mut Bytes)
     requires { 18 ≤ out.old.room }
-    ensures bytes { out.new.bytes ≡ out.old.bytes ++ topic_record 1 (marker_of txn decision) }
+    ensures bytes { out.new.bytes ≡ out.old.bytes ++ topic_record 1 (marker_entry txn decision) }
     ensures room { out.old.room ≤ out.new.room + 18 }
     ensures kept { capacity out.old ≤ capacity out.new }
-    ensures fits { IsTopicEntry (marker_of txn decision) }
+    ensures fits { IsTopicEntry (marker_entry txn decision) }
 {
     match decision {
         Decision::Commit => put_named(out, 3, txn),
@@ -53,8 +53,8 @@ pub fn put_marker(txn: TxnId, decision: Decision, out: &mut Bytes)
 
 /// The record of a marker.
 pub fn marker_record(alloc: Global, txn: TxnId, decision: Decision) -> Result<Bytes, AllocError>
-    ensures written { IfOk result (λ b. IsTopicRecord 1 b.bytes (marker_of txn decision)) }
-    ensures entry { IfOk result (λ b. topic_entry_of b.bytes ≡ marker_of txn decision) }
+    ensures written { IfOk result (λ b. IsTopicRecord 1 b.bytes (marker_entry txn decision)) }
+    ensures entry { IfOk result (λ b. topic_entry_of b.bytes ≡ marker_entry txn decision) }
 {
     let mut out = Bytes::new(alloc);
     out.reserve(18)?;

@@ -2,7 +2,7 @@ pub mod Keeping
 pub mod LineKinds
 pub mod Answering
 pub mod Telling
-pub mod Fenced
+pub mod RebuiltParts
 pub mod Feeding
 pub mod Reading
 pub mod Serving

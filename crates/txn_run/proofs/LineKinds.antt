@@ -8,12 +8,12 @@ use Rattle.txn_base.specs.declared.reply.Reply.{Reply}
 use Rattle.txn_base.specs.declared.reply.Reply.TheVariants as reply
 use Rattle.txn_base.specs.declared.reply.Refusal.TheVariants as no
 use Rattle.txn_model.specs.Cut.{is_blank}
-use Rattle.txn_model.specs.Replies.{Standing, too_long, blank, form, Replied, AnswersFrom}
+use Rattle.txn_model.specs.Replies.{RunState, too_long, blank, form, Replied, AnswersFrom}
 use Rattle.txn_wire.specs.Lines.{request_of, AsksForSome}
 use Rattle.txn_wire.specs.Short.{is_long}
 use Rattle.txn_engine.specs.Told.{IsAsked}
 use Rattle.txn_run.specs.Kinds.{is_answered, if_answered, asked_of, line_kind}
-use Rattle.txn_run.specs.Told.{MayTell}
+use Rattle.txn_run.specs.Told.{LineMayTell}
 
 lt_true : (m n : ℕ) → m < n → nat_lt m n ≡ true
 lt_true m n h = grind (arith, nat_tests)
@@ -47,14 +47,14 @@ module _ (limits : Limits) (piece : List ℕ) where
   kind_form : (o : Option Request) → length piece ≤ limits.line → is_blank piece ≡ false → asked_of piece ≡ o → line_kind limits piece ≡ form o
   kind_form o h e asked = rw (lt_false limits.line (length piece) h, e, asked) refl
 
-  module _ (s : Standing) where
-    pub long_told : limits.line < length piece → MayTell limits s (line_kind limits piece) (reply.No no.TooLong) s
+  module _ (s : RunState) where
+    pub long_told : limits.line < length piece → LineMayTell limits s (line_kind limits piece) (reply.No no.TooLong) s
     long_told h = rw (kind_long h) (record { told = (refl, refl); instead = λ long. cc })
 
     pub blank_told : length piece ≤ limits.line → is_blank piece ≡ true → Replied limits s (line_kind limits piece) [] s
     blank_told h e = rw (kind_blank h e) (refl, refl)
 
-    none_told : MayTell limits s (form None) (reply.No no.BadLine) s
+    none_told : LineMayTell limits s (form None) (reply.No no.BadLine) s
     none_told = record { told = (inl refl, refl); instead = λ long. cc }
 
     -- want of memory may be told of every form
@@ -62,7 +62,7 @@ module _ (limits : Limits) (piece : List ℕ) where
     memory_told None = (inr refl, refl)
     memory_told (Some r) = (reply.No no.NoMemory, refl, inl (refl, refl))
 
-    pub bad_told : length piece ≤ limits.line → is_blank piece ≡ false → request_of piece ≡ None → MayTell limits s (line_kind limits piece) (reply.No no.BadLine) s
+    pub bad_told : length piece ≤ limits.line → is_blank piece ≡ false → request_of piece ≡ None → LineMayTell limits s (line_kind limits piece) (reply.No no.BadLine) s
     bad_told h e none = rw (kind_form None h e (ap if_answered none)) none_told
 
     unanswered : (r : Request) → is_answered r ≡ false → if_answered (Some r) ≡ None
@@ -71,11 +71,11 @@ module _ (limits : Limits) (piece : List ℕ) where
     answered : (r : Request) → is_answered r ≡ true → if_answered (Some r) ≡ Some r
     answered r e = rw e refl
 
-    pub unanswered_told : (r : Request) → length piece ≤ limits.line → is_blank piece ≡ false → request_of piece ≡ Some r → is_answered r ≡ false → MayTell limits s (line_kind limits piece) (reply.No no.BadLine) s
+    pub unanswered_told : (r : Request) → length piece ≤ limits.line → is_blank piece ≡ false → request_of piece ≡ Some r → is_answered r ≡ false → LineMayTell limits s (line_kind limits piece) (reply.No no.BadLine) s
     unanswered_told r h e asked not_answered = rw (kind_form None h e (ap if_answered asked ∙ unanswered r not_answered)) none_told
 
-    pub no_memory_told : length piece ≤ limits.line → is_blank piece ≡ false → MayTell limits s (line_kind limits piece) (reply.No no.NoMemory) s
+    pub no_memory_told : length piece ≤ limits.line → is_blank piece ≡ false → LineMayTell limits s (line_kind limits piece) (reply.No no.NoMemory) s
     no_memory_told h e = rw (kind_form (asked_of piece) h e refl) (record { told = memory_told (asked_of piece); instead = λ long. memory_told (asked_of piece) })
 
-    pub answer_told : (r : Request) (told : Reply) (s' : Standing) → length piece ≤ limits.line → is_blank piece ≡ false → request_of piece ≡ Some r → is_answered r ≡ true → AnswersFrom limits s r told s' → (is_long told ≡ true → AnswersFrom limits s r (reply.No no.NoMemory) s') → MayTell limits s (line_kind limits piece) told s'
+    pub answer_told : (r : Request) (told : Reply) (s' : RunState) → length piece ≤ limits.line → is_blank piece ≡ false → request_of piece ≡ Some r → is_answered r ≡ true → AnswersFrom limits s r told s' → (is_long told ≡ true → AnswersFrom limits s r (reply.No no.NoMemory) s') → LineMayTell limits s (line_kind limits piece) told s'
     answer_told r told s' h e asked is answers instead = rw (kind_form (Some r) h e (ap if_answered asked ∙ answered r is)) (record { told = (told, refl, answers); instead = λ long. (reply.No no.NoMemory, refl, instead long) })

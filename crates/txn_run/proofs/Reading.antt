@@ -3,26 +3,26 @@ use Rattle.std.proofs.Common.{◌≡◌, ℕ, ◌+◌, ◌≤◌, zero, suc, Lis
 use Rattle.std.specs.Io.KnownBytes.{Consumes, Keeps}
 use Rattle.std.proofs.KnownBytes.{Consumes-trans, Consumes-kept}
 use Rattle.txn_base.specs.declared.limits.Limits.{Limits}
-use Rattle.txn_model.specs.Replies.{Standing}
-use Rattle.txn_run.specs.Going.{Going, Reading}
-use Rattle.txn_run.specs.declared.pending.Pending.{Pending}
+use Rattle.txn_model.specs.Replies.{RunState}
+use Rattle.txn_run.specs.Going.{Going, HasTaken}
+use Rattle.txn_run.specs.declared.partial_line.PartialLine.{PartialLine}
 use Rattle.txn_run.specs.declared.status.RunStatus.TheVariants as status
 
 none_of : (n : ℕ) (chunk : List ℕ) → n ≡ 0 → take n chunk ≡ []
 none_of n chunk e = rw e refl
 
 -- so many bytes were taken, and the run goes so
-abbrev pub CameTo : Limits → Standing → Option (List ℕ) → Option (List ℕ) → ℕ → Pending → Standing → Option (List ℕ) → Option (List ℕ) → Type 0
+abbrev pub CameTo : Limits → RunState → Option (List ℕ) → Option (List ℕ) → ℕ → PartialLine → RunState → Option (List ℕ) → Option (List ℕ) → Type 0
 CameTo limits s old left taken p u mid left' = (fed : List ℕ) × Consumes left left' fed × (length fed ≡ taken) × Going limits s old fed p u mid
 
-pub reads_kept : (limits : Limits) (s : Standing) (old left : Option (List ℕ)) (taken : ℕ) (p : Pending) (u : Standing) (mid left' left'' : Option (List ℕ)) → Reading limits s old left taken p u mid left' → Keeps left' left'' → CameTo limits s old left taken p u mid left''
+pub reads_kept : (limits : Limits) (s : RunState) (old left : Option (List ℕ)) (taken : ℕ) (p : PartialLine) (u : RunState) (mid left' left'' : Option (List ℕ)) → HasTaken limits s old left taken p u mid left' → Keeps left' left'' → CameTo limits s old left taken p u mid left''
 reads_kept limits s old left taken p u mid left' left'' r kept = (r.fed, Consumes-kept left left' left'' r.fed r.came kept, r.count, r.going)
 
 pub came_none : (left left' left'' : Option (List ℕ)) (bytes chunk : List ℕ) (n : ℕ) → n ≡ 0 → Consumes left left' bytes → Consumes left' left'' (take n chunk) → Consumes left left'' bytes
 came_none left left' left'' bytes chunk n none came last =
     subst (Consumes left left'') (append-nil bytes) (Consumes-trans left left' left'' bytes [] came (subst (Consumes left' left'') (none_of n chunk none) last))
 
-pub reads_end : (limits : Limits) (s : Standing) (old left : Option (List ℕ)) (taken : ℕ) (p : Pending) (u : Standing) (mid left' left'' : Option (List ℕ)) (chunk : List ℕ) (n : ℕ) → n ≡ 0 → Reading limits s old left taken p u mid left' → Consumes left' left'' (take n chunk) → CameTo limits s old left taken p u mid left''
+pub reads_end : (limits : Limits) (s : RunState) (old left : Option (List ℕ)) (taken : ℕ) (p : PartialLine) (u : RunState) (mid left' left'' : Option (List ℕ)) (chunk : List ℕ) (n : ℕ) → n ≡ 0 → HasTaken limits s old left taken p u mid left' → Consumes left' left'' (take n chunk) → CameTo limits s old left taken p u mid left''
 reads_end limits s old left taken p u mid left' left'' chunk n none r last = (r.fed, came_none left left' left'' r.fed chunk n none r.came last, r.count, r.going)
 
 pub came_more : (left left' left'' : Option (List ℕ)) (bytes more : List ℕ) (taken n : ℕ) → Consumes left left' bytes → length bytes ≡ taken → Consumes left' left'' more → length more ≡ n → (all : List ℕ) × Consumes left left'' all × (length all ≡ taken + n)

@@ -19,9 +19,9 @@ use Rattle.txn_engine.specs.declared.opening.EngineError.{EngineError}
 use Rattle.txn_engine.specs.declared.opening.EngineError.TheVariants as engine_error
 use Rattle.txn_engine.proofs.Laws.{left_kept}
 use Rattle.txn_run.specs.Before.{IsSoundBefore}
-use Rattle.txn_run.specs.Going.{standing}
-use Rattle.txn_run.specs.Run.{Leaves, IsEarly, IsAnswered, first_standing}
-use Rattle.txn_run.specs.Status.{unopened}
+use Rattle.txn_run.specs.Going.{run_state}
+use Rattle.txn_run.specs.Run.{Leaves, IsEarly, IsAnswered, first_run_state}
+use Rattle.txn_run.specs.Status.{status_unopened}
 use Rattle.txn_run.specs.declared.status.RunStatus.TheVariants as status
 use Rattle.txn_run.proofs.FirstState.{first_table}
 
@@ -48,7 +48,7 @@ module _ {D : Type 0} (on : Ghosts D) (names : List (List ℕ)) where
       (was.world, from.2 was.world (record { world = was.world; stands = was.stands; lawful = was.lawful; extends = extends_same was.world }))
 
 -- the table from which the lines begin
-pub first_is : (names : List (List ℕ)) (v : EngineView) (w : World) → w.names ≡ names → table_of v ≡ table_over w → (ms : Option (List ℕ)) (f : ℕ) (fs : ℕ → ℕ) → standing v ms f fs ≡ first_standing names w ms f fs
+pub first_is : (names : List (List ℕ)) (v : EngineView) (w : World) → w.names ≡ names → table_of v ≡ table_over w → (ms : Option (List ℕ)) (f : ℕ) (fs : ℕ → ℕ) → run_state v ms f fs ≡ first_run_state names w ms f fs
 first_is names v w named table ms f fs = ap (λ (t : TableState). record { table = t; moments = ms; faults = f; faults_of = fs }) (table ∙ sym (first_table w names named))
 
 -- what a stop leaves
@@ -69,22 +69,22 @@ run_named seen P names these e h = subst (λ (ns : List (List ℕ)). (sound : Is
 
 -- ---- The statuses of an opening.
 
-pub early_here : (error : EngineError) → ((file : FileId) (entry : ℕ) → error ≡ engine_error.Damaged file entry → ⊥) → IsEarly (unopened error)
+pub early_here : (error : EngineError) → ((file : FileId) (entry : ℕ) → error ≡ engine_error.Damaged file entry → ⊥) → IsEarly (status_unopened error)
 early_here (engine_error.Damaged file entry) none = absurd (none file entry refl)
 early_here engine_error.Fault none = tt
 early_here engine_error.NoMemory none = tt
 
-pub damage_of : (error : EngineError) (file : FileId) (entry : ℕ) → unopened error ≡ status.Damaged file entry → error ≡ engine_error.Damaged file entry
+pub damage_of : (error : EngineError) (file : FileId) (entry : ℕ) → status_unopened error ≡ status.Damaged file entry → error ≡ engine_error.Damaged file entry
 damage_of (engine_error.Damaged at place) file entry e = cc
 damage_of engine_error.Fault file entry e = cc
 damage_of engine_error.NoMemory file entry e = cc
 
-pub fault_of : (error : EngineError) → unopened error ≡ status.DiskFault → error ≡ engine_error.Fault
+pub fault_of : (error : EngineError) → status_unopened error ≡ status.DiskFault → error ≡ engine_error.Fault
 fault_of (engine_error.Damaged at place) e = cc
 fault_of engine_error.Fault e = refl
 fault_of engine_error.NoMemory e = cc
 
-pub not_answered : (error : EngineError) → IsAnswered (unopened error) → ⊥
+pub not_answered : (error : EngineError) → IsAnswered (status_unopened error) → ⊥
 not_answered (engine_error.Damaged at place) is = is
 not_answered engine_error.Fault is = is
 not_answered engine_error.NoMemory is = is

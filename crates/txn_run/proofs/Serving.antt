@@ -3,10 +3,11 @@ use Rattle.std.proofs.Common.{◌≡◌, ◌≤◌, ℕ, List, Result, Err, leng
 use Rattle.txn_base.specs.declared.disk.Disk as disk
 use Rattle.txn_base.specs.declared.sink.Sink as sink
 use Rattle.txn_base.specs.Moves.{After}
+use Rattle.txn_base.proofs.Laws.{started, goes_on}
 use Rattle.txn_engine.specs.Above.{KeepsAboveIf}
 use Rattle.txn_engine.specs.Files.{OnlyLedgers}
 use Rattle.txn_engine.specs.Kept.{IsEngine}
-use Rattle.txn_engine.specs.Told.{FaultsWithin, Goes}
+use Rattle.txn_engine.specs.Told.{FaultsWithin, EngineGoesOn}
 use Rattle.txn_engine.specs.View.{EngineView, IsTied, IsBacked}
 use Rattle.txn_run.specs.Files.{LeavesOthers}
 use Rattle.txn_run.specs.Serving.{Serves, TellsTo}
@@ -56,7 +57,7 @@ module _ {D : Type 0} (on : disk.Ghosts D) where
   }
 
   -- of an engine's answer
-  pub serves_once : {X : Type 0} {v w : EngineView} {old new : D} → w.limits ≡ v.limits → IsEngine w → Goes on X v w old new → Serves on X v w old new
+  pub serves_once : {X : Type 0} {v w : EngineView} {old new : D} → w.limits ≡ v.limits → IsEngine w → EngineGoesOn on X v w old new → Serves on X v w old new
   serves_once {X} {v} {w} {old} {new} limits engine goes = record {
     names = goes.names;
     limits = limits;

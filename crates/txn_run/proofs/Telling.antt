@@ -8,25 +8,25 @@ use Rattle.txn_base.specs.declared.limits.Limits.{Limits}
 use Rattle.txn_base.specs.declared.reply.Reply.{Reply}
 use Rattle.txn_base.specs.declared.reply.Reply.TheVariants as reply
 use Rattle.txn_base.specs.declared.reply.Refusal.TheVariants as no
-use Rattle.txn_model.specs.Replies.{Standing, Kind, Replied, Replies, is_fault}
+use Rattle.txn_model.specs.Replies.{RunState, LineKind, Replied, Replies, is_fault}
 use Rattle.txn_wire.specs.Replies.{text_of}
 use Rattle.txn_wire.specs.Short.{is_long}
 use Rattle.txn_run.specs.Kinds.{line_kind, line_kinds}
-use Rattle.txn_run.specs.Told.{SomeFenced, texts, Grows, EndsWithFault, ToldLine, ToldFront, ToldFault, Told, ToldToFault, CutOff, StandsFor, MayTell}
+use Rattle.txn_run.specs.Told.{SomeUnrebuilt, texts, OnlyAppends, EndsWithFault, ToldLine, ToldFront, ToldFault, AnsweredLines, ToldToFault, CutOff, IsToldFor, LineMayTell}
 
 -- ---- one reply, or want of memory in its place
 
-replied_instead : (limits : Limits) (s : Standing) (kind : Kind) (r told : Reply) (s' : Standing) → MayTell limits s kind r s' → StandsFor r told → Replied limits s kind (told ∷ []) s'
+replied_instead : (limits : Limits) (s : RunState) (kind : LineKind) (r told : Reply) (s' : RunState) → LineMayTell limits s kind r s' → IsToldFor r told → Replied limits s kind (told ∷ []) s'
 replied_instead limits s kind r told s' h (inl e) = subst (λ x. Replied limits s kind (x ∷ []) s') (sym e) h.told
 replied_instead limits s kind r told s' h (inr e) = subst (λ x. Replied limits s kind (x ∷ []) s') (sym e.0) (h.instead e.1)
 
 text_of_one : (told : Reply) → text_of told ≡ texts (told ∷ [])
 text_of_one told = sym (append-nil (text_of told))
 
-pub told_line : (limits : Limits) (s : Standing) (kind : Kind) (r told : Reply) (s' : Standing) (old new : Option (List ℕ)) → MayTell limits s kind r s' → StandsFor r told → Appends old new (text_of told) → ToldLine limits s kind s' old new
+pub told_line : (limits : Limits) (s : RunState) (kind : LineKind) (r told : Reply) (s' : RunState) (old new : Option (List ℕ)) → LineMayTell limits s kind r s' → IsToldFor r told → Appends old new (text_of told) → ToldLine limits s kind s' old new
 told_line limits s kind r told s' old new h stands put = (told ∷ [], replied_instead limits s kind r told s' h stands, subst (Appends old new) (text_of_one told) put)
 
-pub told_front : (limits : Limits) (s : Standing) (kind : Kind) (r told : Reply) (s' : Standing) (old new : Option (List ℕ)) (n : ℕ) → MayTell limits s kind r s' → StandsFor r told → Appends old new (take n (text_of told)) → ToldFront limits s kind s' old new
+pub told_front : (limits : Limits) (s : RunState) (kind : LineKind) (r told : Reply) (s' : RunState) (old new : Option (List ℕ)) (n : ℕ) → LineMayTell limits s kind r s' → IsToldFor r told → Appends old new (take n (text_of told)) → ToldFront limits s kind s' old new
 told_front limits s kind r told s' old new n h stands put = (told, n, replied_instead limits s kind r told s' h stands, put)
 
 -- ---- what a call's result says
@@ -41,7 +41,7 @@ puts_err old new (Err e) bytes P h k = k h.0 h.2
 
 -- ---- one more line
 
-pub replies_push : (limits : Limits) (s : Standing) (kinds : List Kind) (told : List Reply) (m : Standing) (kind : Kind) (more : List Reply) (s' : Standing) → Replies limits s kinds told m → Replied limits m kind more s' → Replies limits s (kinds ++ kind ∷ []) (told ++ more) s'
+pub replies_push : (limits : Limits) (s : RunState) (kinds : List LineKind) (told : List Reply) (m : RunState) (kind : LineKind) (more : List Reply) (s' : RunState) → Replies limits s kinds told m → Replied limits m kind more s' → Replies limits s (kinds ++ kind ∷ []) (told ++ more) s'
 replies_push limits s [] told m kind more s' h r =
     let here = subst (λ x. Replied limits x kind more s') h.1 r in
     (s', more, [], here, (refl, refl), ap (λ x. x ++ more) h.0 ∙ sym (append-nil more))
@@ -52,29 +52,29 @@ kinds_push : (limits : Limits) (lines : List (List ℕ)) (line : List ℕ) → l
 kinds_push limits [] line = refl
 kinds_push limits (l ∷ ls) line = ap (λ ks. line_kind limits l ∷ ks) (kinds_push limits ls line)
 
-replies_line : (limits : Limits) (s : Standing) (lines : List (List ℕ)) (told : List Reply) (m : Standing) (line : List ℕ) (more : List Reply) (s' : Standing) → Replies limits s (line_kinds limits lines) told m → Replied limits m (line_kind limits line) more s'
+replies_line : (limits : Limits) (s : RunState) (lines : List (List ℕ)) (told : List Reply) (m : RunState) (line : List ℕ) (more : List Reply) (s' : RunState) → Replies limits s (line_kinds limits lines) told m → Replied limits m (line_kind limits line) more s'
     → Replies limits s (line_kinds limits (lines ++ line ∷ [])) (told ++ more) s'
 replies_line limits s lines told m line more s' h r =
     subst (λ ks. Replies limits s ks (told ++ more) s') (sym (kinds_push limits lines line)) (replies_push limits s (line_kinds limits lines) told m (line_kind limits line) more s' h r)
 
-pub told_push : (limits : Limits) (s : Standing) (lines : List (List ℕ)) (m : Standing) (line : List ℕ) (s' : Standing) (old mid new : Option (List ℕ)) → Told limits s lines m old mid → ToldLine limits m (line_kind limits line) s' mid new → Told limits s (lines ++ line ∷ []) s' old new
+pub told_push : (limits : Limits) (s : RunState) (lines : List (List ℕ)) (m : RunState) (line : List ℕ) (s' : RunState) (old mid new : Option (List ℕ)) → AnsweredLines limits s lines m old mid → ToldLine limits m (line_kind limits line) s' mid new → AnsweredLines limits s (lines ++ line ∷ []) s' old new
 told_push limits s lines m line s' old mid new so (more, r, put) = record {
   told = so.told ++ more;
   replies = replies_line limits s lines so.told m line more s' so.replies r;
   put = subst (Appends old new) (sym (flat_map-append text_of so.told more)) (Appends-trans old mid new (texts so.told) (texts more) so.put put);
 }
 
-pub fault_push : (limits : Limits) (s : Standing) (lines : List (List ℕ)) (m : Standing) (line : List ℕ) (s' : Standing) (old mid new : Option (List ℕ)) → Told limits s lines m old mid → ToldFault limits m (line_kind limits line) s' mid new → ToldToFault limits s (lines ++ line ∷ []) s' old new
-fault_push limits s lines m line s' old mid new so (one, r, fault, fenced, put) = record {
+pub fault_push : (limits : Limits) (s : RunState) (lines : List (List ℕ)) (m : RunState) (line : List ℕ) (s' : RunState) (old mid new : Option (List ℕ)) → AnsweredLines limits s lines m old mid → ToldFault limits m (line_kind limits line) s' mid new → ToldToFault limits s (lines ++ line ∷ []) s' old new
+fault_push limits s lines m line s' old mid new so (one, r, fault, unrebuilt, put) = record {
   told = so.told;
   last = one;
   replies = replies_line limits s lines so.told m line (one ∷ []) s' so.replies r;
   fault = fault;
-  fenced = fenced;
+  unrebuilt = unrebuilt;
   put = subst (Appends old new) (sym (flat_map-append text_of so.told (one ∷ []))) (Appends-trans old mid new (texts so.told) (texts (one ∷ [])) so.put put);
 }
 
-pub cut_off_push : (limits : Limits) (s : Standing) (lines : List (List ℕ)) (m : Standing) (line : List ℕ) (s' : Standing) (old mid new : Option (List ℕ)) → Told limits s lines m old mid → ToldFront limits m (line_kind limits line) s' mid new → CutOff limits s (lines ++ line ∷ []) s' old new
+pub cut_off_push : (limits : Limits) (s : RunState) (lines : List (List ℕ)) (m : RunState) (line : List ℕ) (s' : RunState) (old mid new : Option (List ℕ)) → AnsweredLines limits s lines m old mid → ToldFront limits m (line_kind limits line) s' mid new → CutOff limits s (lines ++ line ∷ []) s' old new
 cut_off_push limits s lines m line s' old mid new so (one, n, r, put) = record {
   told = so.told;
   last = one;
@@ -120,10 +120,10 @@ long_no_fault (reply.No (no.AlreadyAcked a)) long fault = cc
 long_no_fault (reply.No (no.Conflict a b)) long fault = cc
 long_no_fault (reply.No (no.Full a b)) long fault = cc
 
-pub told_fault : (limits : Limits) (s : Standing) (kind : Kind) (r told : Reply) (s' : Standing) (old new : Option (List ℕ)) → MayTell limits s kind r s' → StandsFor r told → is_fault r ≡ true → SomeFenced s'.table → Appends old new (text_of told) → ToldFault limits s kind s' old new
-told_fault limits s kind r told s' old new h (inl e) fault fenced put =
-    (told, subst (λ x. Replied limits s kind (x ∷ []) s') (sym e) h.told, ap is_fault e ∙ fault, fenced, subst (Appends old new) (text_of_one told) put)
-told_fault limits s kind r told s' old new h (inr e) fault fenced put = absurd (long_no_fault r e.1 fault)
+pub told_fault : (limits : Limits) (s : RunState) (kind : LineKind) (r told : Reply) (s' : RunState) (old new : Option (List ℕ)) → LineMayTell limits s kind r s' → IsToldFor r told → is_fault r ≡ true → SomeUnrebuilt s'.table → Appends old new (text_of told) → ToldFault limits s kind s' old new
+told_fault limits s kind r told s' old new h (inl e) fault unrebuilt put =
+    (told, subst (λ x. Replied limits s kind (x ∷ []) s') (sym e) h.told, ap is_fault e ∙ fault, unrebuilt, subst (Appends old new) (text_of_one told) put)
+told_fault limits s kind r told s' old new h (inr e) fault unrebuilt put = absurd (long_no_fault r e.1 fault)
 
 -- an engine that isn't whole told a fault
 pub not_whole : (P : Type 0) (whole fault : Bool) → whole ≡ false → IsTrue whole ↔ P → P ⊎ (fault ≡ true) → fault ≡ true
@@ -132,21 +132,21 @@ not_whole P whole fault e test (inr h) = h
 
 -- ---- what was put, on every disk
 
-pub grows_none : (a : Option (List ℕ)) → Grows a a
+pub grows_none : (a : Option (List ℕ)) → OnlyAppends a a
 grows_none a = ([], Appends-nil a)
 
-pub grows_then : (a b c : Option (List ℕ)) → Grows a b → Grows b c → Grows a c
+pub grows_then : (a b c : Option (List ℕ)) → OnlyAppends a b → OnlyAppends b c → OnlyAppends a c
 grows_then a b c one two = (one.0 ++ two.0, Appends-trans a b c one.0 two.0 one.1 two.1)
 
-pub puts_grow : {T E : Type 0} (old new : Option (List ℕ)) (r : Result T E) (bytes : List ℕ) → PutsAll old new r bytes → Grows old new
+pub puts_grow : {T E : Type 0} (old new : Option (List ℕ)) (r : Result T E) (bytes : List ℕ) → PutsAll old new r bytes → OnlyAppends old new
 puts_grow old new (Ok x) bytes h = (bytes, h)
 puts_grow old new (Err e) bytes h = (take h.0 bytes, h.2)
 
-pub ends_with_fault : (r told : Reply) (old new : Option (List ℕ)) → StandsFor r told → is_fault r ≡ true → Appends old new (text_of told) → EndsWithFault old new
+pub ends_with_fault : (r told : Reply) (old new : Option (List ℕ)) → IsToldFor r told → is_fault r ≡ true → Appends old new (text_of told) → EndsWithFault old new
 ends_with_fault r told old new (inl e) fault put = record { before = []; last = told; fault = ap is_fault e ∙ fault; put = put }
 ends_with_fault r told old new (inr e) fault put = absurd (long_no_fault r e.1 fault)
 
-pub ends_after : (a b c : Option (List ℕ)) → Grows a b → EndsWithFault b c → EndsWithFault a c
+pub ends_after : (a b c : Option (List ℕ)) → OnlyAppends a b → EndsWithFault b c → EndsWithFault a c
 ends_after a b c one two = record {
   before = one.0 ++ two.before;
   last = two.last;

@@ -21,7 +21,7 @@ use Rattle.txn_model.specs.Skeletons.{coord_skeleton, coord_skeletons, topic_ske
 use Rattle.txn_model.specs.Sound.{ledger_file, RecordsOf, IsBareRecord}
 use Rattle.txn_model.specs.Topic.{part_allows, TopicLawful}
 use Rattle.txn_model.specs.Words.{all_follow, IsLawfulBy, has}
-use Rattle.txn_model.proofs.Laws.Files.{coord_of, topic_of_record, entries_of}
+use Rattle.txn_model.proofs.Laws.Files.{coord_of, topic_of_record, entries_of_records}
 use Rattle.txn_model.proofs.Laws.Names.{numbered_has}
 use Rattle.txn_model.proofs.Laws.Lists.{all_follow-append}
 use Rattle.txn_buffer.specs.Mending.{IsBad}
@@ -96,7 +96,7 @@ module _ (names : List (List ℕ)) (topics : All (λ name. is_topic_name name �
   log_here : IsLog (length names) (files (ledger_file 0))
   log_here =
       let log = sound.stands.coord in
-      let entries : coord_entries log.batches ≡ sound.world.coord = entries_of IsCoordRecord coord_entry_of coord_of (records log.batches) sound.world.coord log.each in
+      let entries : coord_entries log.batches ≡ sound.world.coord = entries_of_records IsCoordRecord coord_entry_of coord_of (records log.batches) sound.world.coord log.each in
       let lawful : CoordLawful (length names) (coord_skeletons sound.world.coord) = subst (λ (ns : List (List ℕ)). CoordLawful (length ns) (coord_skeletons sound.world.coord)) sound.stands.named sound.lawful.coord in
       (log.batches, log.stands, coord_grammar (records log.batches) sound.world.coord log.each, subst (λ (es : List CoordEntry). CoordLawful (length names) (coord_skeletons es)) (sym entries) lawful)
 
@@ -106,7 +106,7 @@ module _ (names : List (List ℕ)) (topics : All (λ name. is_topic_name name �
   topic_here : (p : ℕ) → suc p ≤ length names → IsTopicLedger (files (ledger_file (suc p)))
   topic_here p within =
       let topic = sound.stands.topics (suc p) (is_topic_part p within) in
-      let entries = entries_of IsBareRecord topic_entry_of topic_of_record (records topic.batches) _ topic.each in
+      let entries = entries_of_records IsBareRecord topic_entry_of topic_of_record (records topic.batches) _ topic.each in
       (topic.batches, topic.stands, topic_grammar (records topic.batches) _ topic.each, subst TopicLawful (sym entries) (sound.lawful.topics (suc p)))
 
   sound_parts : AreParts (length names) files

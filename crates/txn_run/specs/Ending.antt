@@ -6,15 +6,15 @@ use Rattle.txn_run.specs.declared.status.RunStatus.{RunStatus}
 use Rattle.txn_run.specs.declared.status.RunStatus.TheVariants as status
 
 -- The program's status.
-abbrev pub number_of : RunStatus → ℕ
-number_of status.Ok = 0
-number_of (status.Usage u) = 1
-number_of (status.Damaged file entry) = 2
-number_of status.ReadFault = 3
-number_of status.WriteFault = 4
-number_of status.DiskFault = 5
-number_of status.NoMemory = 6
-number_of status.TooMuch = 7
+abbrev pub exit_status : RunStatus → ℕ
+exit_status status.Ok = 0
+exit_status (status.Usage u) = 1
+exit_status (status.Damaged file entry) = 2
+exit_status status.ReadFault = 3
+exit_status status.WriteFault = 4
+exit_status status.DiskFault = 5
+exit_status status.NoMemory = 6
+exit_status status.TooMuch = 7
 
 -- The line that it says: nothing where all went well; of damage the name of the file and the entry.
 abbrev pub line_of : RunStatus → List ℕ

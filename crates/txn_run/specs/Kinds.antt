@@ -3,7 +3,7 @@ use Rattle.std.specs.Prelude.{ℕ, Bool, true, false, if◌then◌else◌, List,
 use Rattle.txn_base.specs.declared.limits.Limits.{Limits}
 use Rattle.txn_base.specs.declared.request.Request.{Request}
 use Rattle.txn_base.specs.declared.request.Request.TheVariants as request
-use Rattle.txn_model.specs.Replies.{Kind, kind_of}
+use Rattle.txn_model.specs.Replies.{LineKind, line_kind_of}
 use Rattle.txn_wire.specs.Lines.{request_of}
 
 -- The forms that are answered so far. Every other one is a bad line.
@@ -25,8 +25,8 @@ if_answered (Some r) = if is_answered r then Some r else None
 abbrev pub asked_of : List ℕ → Option Request
 asked_of line = if_answered (request_of line)
 
-abbrev pub line_kind : Limits → List ℕ → Kind
-line_kind limits line = kind_of asked_of limits line
+abbrev pub line_kind : Limits → List ℕ → LineKind
+line_kind limits line = line_kind_of asked_of limits line
 
-abbrev pub line_kinds : Limits → List (List ℕ) → List Kind
+abbrev pub line_kinds : Limits → List (List ℕ) → List LineKind
 line_kinds limits lines = map (line_kind limits) lines

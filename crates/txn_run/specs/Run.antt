@@ -13,12 +13,12 @@ use Rattle.txn_engine.specs.Opening.{AreParts, KeepsLists}
 use Rattle.txn_model.specs.declared.world.World.{World}
 use Rattle.txn_model.specs.Cut.{whole_lines, lines_of}
 use Rattle.txn_model.specs.Opening.{first_state}
-use Rattle.txn_model.specs.Replies.{Standing, count_faults}
+use Rattle.txn_model.specs.Replies.{RunState, count_faults}
 use Rattle.txn_model.specs.Sound.{StandsForKept}
 use Rattle.txn_model.specs.Table.{TableState}
 use Rattle.txn_run.specs.Before.{IsSoundBefore}
 use Rattle.txn_run.specs.Words.{command_of}
-use Rattle.txn_run.specs.Told.{AllRebuilt, Told, Broken, Stopped, EndsWithFault}
+use Rattle.txn_run.specs.Told.{AllRebuilt, AnsweredLines, Broken, Stopped, EndsWithFault}
 use Rattle.txn_run.specs.declared.status.RunStatus.{RunStatus}
 use Rattle.txn_run.specs.declared.status.RunStatus.TheVariants as status
 
@@ -33,18 +33,18 @@ AreLines limits taken left all = (all ≡ whole_lines taken) ⊎ (IsAtEnd left �
 -- From s, these bytes were taken, and what was put is the texts of the replies of the table, which leave s': to all lines
 -- (0); to the lines that had ended (3, 7); to a front of the lines, and of the text of the last reply a front (4); those up
 -- to a fault that leaves a part not rebuilt, which is the last (5). With 0, 3 and 7 every part is rebuilt.
-abbrev pub Ended : RunStatus → Limits → Standing → Option (List ℕ) → List ℕ → Standing → Option (List ℕ) → Option (List ℕ) → Type 0
-Ended status.Ok limits s old taken s' new left = IsAtEnd left × (length taken < limits.input) × AllRebuilt s'.table × Told limits s (lines_of taken) s' old new
-Ended status.ReadFault limits s old taken s' new left = (length taken < limits.input) × AllRebuilt s'.table × Told limits s (whole_lines taken) s' old new
+abbrev pub Ended : RunStatus → Limits → RunState → Option (List ℕ) → List ℕ → RunState → Option (List ℕ) → Option (List ℕ) → Type 0
+Ended status.Ok limits s old taken s' new left = IsAtEnd left × (length taken < limits.input) × AllRebuilt s'.table × AnsweredLines limits s (lines_of taken) s' old new
+Ended status.ReadFault limits s old taken s' new left = (length taken < limits.input) × AllRebuilt s'.table × AnsweredLines limits s (whole_lines taken) s' old new
 Ended status.WriteFault limits s old taken s' new left = (length taken ≤ limits.input) × (all : List (List ℕ)) × AreLines limits taken left all × Broken limits s old all s' new
 Ended status.DiskFault limits s old taken s' new left = (length taken ≤ limits.input) × (all : List (List ℕ)) × AreLines limits taken left all × Stopped limits s old all s' new
-Ended status.TooMuch limits s old taken s' new left = (length taken ≡ limits.input) × AllRebuilt s'.table × Told limits s (whole_lines taken) s' old new
+Ended status.TooMuch limits s old taken s' new left = (length taken ≡ limits.input) × AllRebuilt s'.table × AnsweredLines limits s (whole_lines taken) s' old new
 Ended status.NoMemory limits s old taken s' new left = ⊥
 Ended (status.Usage u) limits s old taken s' new left = ⊥
 Ended (status.Damaged file entry) limits s old taken s' new left = ⊥
 
 -- The replies that were told in such an end.
-abbrev pub replies_in : (ended : RunStatus) (limits : Limits) (s : Standing) (old : Option (List ℕ)) (taken : List ℕ) (s' : Standing) (new left : Option (List ℕ)) → Ended ended limits s old taken s' new left → List Reply
+abbrev pub replies_in : (ended : RunStatus) (limits : Limits) (s : RunState) (old : Option (List ℕ)) (taken : List ℕ) (s' : RunState) (new left : Option (List ℕ)) → Ended ended limits s old taken s' new left → List Reply
 replies_in status.Ok limits s old taken s' new left (at_end, within, rebuilt, so) = so.told
 replies_in status.ReadFault limits s old taken s' new left (within, rebuilt, so) = so.told
 replies_in status.WriteFault limits s old taken s' new left (within, all, are, (lines, more, split, so)) = so.told ++ so.last ∷ []
@@ -61,13 +61,13 @@ IsEarly status.NoMemory = Unit {0}
 IsEarly _ = ⊥
 
 -- The statuses of a run that came to its first line.
-abbrev pub IsRan : RunStatus → Type 0
-IsRan status.Ok = Unit {0}
-IsRan status.ReadFault = Unit {0}
-IsRan status.WriteFault = Unit {0}
-IsRan status.DiskFault = Unit {0}
-IsRan status.TooMuch = Unit {0}
-IsRan _ = ⊥
+abbrev pub CameToLines : RunStatus → Type 0
+CameToLines status.Ok = Unit {0}
+CameToLines status.ReadFault = Unit {0}
+CameToLines status.WriteFault = Unit {0}
+CameToLines status.DiskFault = Unit {0}
+CameToLines status.TooMuch = Unit {0}
+CameToLines _ = ⊥
 
 -- Those of a run whose words are a command line.
 abbrev pub IsOpened : RunStatus → Type 0
@@ -113,8 +113,8 @@ pub record Early (ended : RunStatus) (moments moments' left left' held held' : O
   pub not_put : Keeps held held'
 
 -- The table over the world of the files, where opening finds all as it is; with what the clock has to tell, and the counts.
-abbrev pub first_standing : List (List ℕ) → World → Option (List ℕ) → ℕ → (ℕ → ℕ) → Standing
-first_standing names w moments faults faults_of = record { table = first_state w names; moments = moments; faults = faults; faults_of = faults_of }
+abbrev pub first_run_state : List (List ℕ) → World → Option (List ℕ) → ℕ → (ℕ → ℕ) → RunState
+first_run_state names w moments faults faults_of = record { table = first_state w names; moments = moments; faults = faults; faults_of = faults_of }
 
 -- A run over the files that stood for the world w and were opened, when the counts stood at f and fs, which is not before
 -- those of the call: its lines are answered by the table, and the clock is left where the last of them leaves it. The replies
@@ -125,14 +125,14 @@ pub record Ran (ended : RunStatus) (limits : Limits) (names : List (List ℕ)) (
   pub faults_of : ℕ → ℕ
   pub faults_later : before ≤ faults
   pub parts_later : (p : ℕ) → parts_before p ≤ faults_of p
-  pub last : Standing
+  pub last : RunState
   pub last_moments : last.moments ≡ moments'
   pub last_faults : last.faults ≡ after
   pub last_parts : last.faults_of ≡ parts_after
   pub taken : List ℕ
   pub came : Consumes left left' taken
-  pub told : Ended ended limits (first_standing names w moments faults faults_of) held taken last held' left'
-  pub counted : min (before + count_faults (replies_in ended limits (first_standing names w moments faults faults_of) held taken last held' left' told)) (2 ^ 64 - 1) ≤ after
+  pub told : Ended ended limits (first_run_state names w moments faults faults_of) held taken last held' left'
+  pub counted : min (before + count_faults (replies_in ended limits (first_run_state names w moments faults faults_of) held taken last held' left' told)) (2 ^ 64 - 1) ≤ after
   pub leaves : ((c : Files) → image_before c → IsSoundBefore names c) → (c : Files) → image c → Leaves names last.table c
 
 -- Ended before its first line, or ran. Damage is no end of a run over sound files.
@@ -141,7 +141,7 @@ abbrev pub RunOn : {D I O K : Type 0} → disk.Ghosts D → source.Ghosts I → 
 RunOn D I O K ended limits names w d d' i i' o o' k k' =
     Early ended (K.moments k) (K.moments k') (I.left i) (I.left i') (O.held o) (O.held o')
     ⊎ Ran ended limits names w (K.moments k) (K.moments k') (D.image d) (D.image d') (D.faults d) (D.faults d') (D.part_faults d) (D.part_faults d')
-        (I.left i) (I.left i') (O.held o) (O.held o')
+    (I.left i) (I.left i') (O.held o) (O.held o')
 
 -- The same of a disk that tells, over files that are sound together with these names.
 abbrev pub RunsOn : {D I O K : Type 0} → disk.Ghosts D → source.Ghosts I → sink.Ghosts O → clock.Ghosts K

@@ -10,7 +10,7 @@ use Rattle.txn_engine.specs.Kept.{IsEngine}
 use Rattle.txn_engine.specs.Told.{FaultsWithin}
 use Rattle.txn_engine.specs.View.{EngineView, IsWhole, IsTied, IsBacked}
 use Rattle.txn_run.specs.Files.{LeavesOthers}
-use Rattle.txn_run.specs.Told.{Grows, EndsWithFault}
+use Rattle.txn_run.specs.Told.{OnlyAppends, EndsWithFault}
 use Rattle.txn_run.specs.declared.lines.Stop.{Stop}
 use Rattle.txn_run.specs.declared.lines.Stop.TheVariants as stop
 
@@ -36,7 +36,7 @@ pub record Serves {D : Type 0} (d : disk.Ghosts D) (is_fault : Type 0) (v v' : E
 -- What was put before stays there, and what is kept beside it; a failed call to put raised the count; and where the disk
 -- stopped the lines, the last reply told of a fault.
 pub record TellsTo {O : Type 0} (o : sink.Ghosts O) (result : Result (Unit {0}) Stop) (old new : O) : Type 0 where
-  pub grown : Grows (o.held old) (o.held new)
+  pub grown : OnlyAppends (o.held old) (o.held new)
   pub beside : o.rest new ≡ o.rest old
   pub later : o.faults old ≤ o.faults new
   pub failed : result ≡ Err stop.Sink → Rose (o.faults old) (o.faults new)

@@ -14,7 +14,7 @@ ReadsWords (Err (status.Usage u)) command = command ≡ Err u
 ReadsWords (Err _) command = ⊥
 
 -- The status of a run whose parts couldn't be opened.
-abbrev pub unopened : EngineError → RunStatus
-unopened (engine_error.Damaged file entry) = status.Damaged file entry
-unopened engine_error.Fault = status.DiskFault
-unopened engine_error.NoMemory = status.NoMemory
+abbrev pub status_unopened : EngineError → RunStatus
+status_unopened (engine_error.Damaged file entry) = status.Damaged file entry
+status_unopened engine_error.Fault = status.DiskFault
+status_unopened engine_error.NoMemory = status.NoMemory

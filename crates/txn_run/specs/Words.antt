@@ -14,14 +14,14 @@ any_bad [] = false
 any_bad (word ∷ words) = is_bad word || any_bad words
 
 -- A name is a topic's, or it is refused.
-abbrev pub named : List ℕ → Result (List ℕ) Usage
-named name = if is_topic_name name then Ok name else Err (usage.BadName name)
+abbrev pub topic_or_refusal : List ℕ → Result (List ℕ) Usage
+topic_or_refusal name = if is_topic_name name then Ok name else Err (usage.BadName name)
 
 -- `lines` and one name.
 abbrev pub lines_with : List (List ℕ) → Result (List ℕ) Usage
 lines_with [] = Err usage.Words
 lines_with (command ∷ []) = Err usage.Words
-lines_with (command ∷ name ∷ []) = if bytes_eq command (codes "lines") then named name else Err usage.Words
+lines_with (command ∷ name ∷ []) = if bytes_eq command (codes "lines") then topic_or_refusal name else Err usage.Words
 lines_with (command ∷ name ∷ more ∷ words) = Err usage.Words
 
 -- The topic that a command line names. A word that is empty or begins with - comes before a name without a topic's form.

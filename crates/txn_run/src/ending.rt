@@ -1,6 +1,6 @@
 //! What the program tells of how a run ended: its status, and the line beside it.
 ghost use Rattle.std.specs.Prelude.{◌≡◌, Some};
-ghost use Rattle.txn_run.specs.Ending.{number_of, line_of};
+ghost use Rattle.txn_run.specs.Ending.{exit_status, line_of};
 
 use crate::status::RunStatus;
 use std::fmt;
@@ -10,7 +10,7 @@ use txn_base::FileName;
 impl RunStatus {
     /// The program's status.
     pub fn number(&self) -> u8
-        ensures { result ≡ number_of self.now }
+        ensures { result ≡ exit_status self.now }
     {
         match self {
             RunStatus::Ok => 0,

@@ -3,7 +3,7 @@
 
 mod ending;
 mod lines;
-mod pending;
+mod partial_line;
 mod program;
 mod put;
 mod room;
@@ -11,7 +11,7 @@ mod status;
 mod words;
 
 pub use lines::Stop;
-pub use pending::Pending;
+pub use partial_line::PartialLine;
 pub use program::run;
 pub use put::{put_reply, with_room};
 pub use status::RunStatus;

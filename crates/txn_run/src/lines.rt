@@ -7,14 +7,14 @@ ghost use Rattle.txn_engine.specs.Told.{IsTellable};
 ghost use Rattle.txn_engine.specs.View.{IsWhole, IsTied};
 ghost use Rattle.txn_model.specs.Answers.{reads_clock};
 ghost use Rattle.txn_model.specs.Cut.{is_blank, lines_of};
-ghost use Rattle.txn_model.specs.Replies.{Standing, Replied, TellsFor};
-ghost use Rattle.txn_run.specs.Going.{standing_at, Stands, Going, GoesOn, BreaksOff, StopsIn};
+ghost use Rattle.txn_model.specs.Replies.{RunState, Replied, TellsFor};
+ghost use Rattle.txn_run.specs.Going.{run_state_at, IsLineSoFar, Going, RunGoesOn, BreaksOff, StopsIn};
 ghost use Rattle.txn_run.specs.Kinds.{is_answered, line_kind};
 ghost use Rattle.txn_run.specs.Serving.{CanServe, Serves, TellsTo};
-ghost use Rattle.txn_run.specs.Told.{tells_fault, ToldLine, ToldFront, ToldFault, Told, Broken, Stopped, MayTell};
+ghost use Rattle.txn_run.specs.Told.{tells_fault, ToldLine, ToldFront, ToldFault, AnsweredLines, Broken, Stopped, LineMayTell};
 ghost use Rattle.txn_run.specs.declared.lines.Stop.TheVariants as stop;
 
-use crate::pending::Pending;
+use crate::partial_line::PartialLine;
 use crate::put::put_reply;
 use std::alloc::Global;
 use std::sync::ledger;
@@ -79,15 +79,15 @@ fn is_blank(line: &[u8]) -> bool
 fn reply<D: Disk, K: Clock, L: ledger::Ledger>(
     alloc: Global,
     limits: &Limits,
-    pending: &Pending,
+    pending: &PartialLine,
     engine: &mut Engine,
     disk: &mut D,
     steps: &mut Steps<L>,
     clock: &mut K,
 ) -> Option<Reply>
     requires ready { CanServe D.Disk limits.now engine.old disk.old }
-    ensures some { IfSome result (λ told. D.tells → IsTied engine.old → (piece : List ℕ) → Stands limits.now.line pending.now piece → MayTell limits.now (standing_at D.Disk K.Clock engine.old clock.old disk.old) (line_kind limits.now piece) told (standing_at D.Disk K.Clock engine.new clock.new disk.new)) }
-    ensures none { result ≡ None → (piece : List ℕ) → Stands limits.now.line pending.now piece → Replied limits.now (standing_at D.Disk K.Clock engine.old clock.old disk.old) (line_kind limits.now piece) [] (standing_at D.Disk K.Clock engine.new clock.new disk.new) }
+    ensures some { IfSome result (λ told. D.tells → IsTied engine.old → (piece : List ℕ) → IsLineSoFar limits.now.line pending.now piece → LineMayTell limits.now (run_state_at D.Disk K.Clock engine.old clock.old disk.old) (line_kind limits.now piece) told (run_state_at D.Disk K.Clock engine.new clock.new disk.new)) }
+    ensures none { result ≡ None → (piece : List ℕ) → IsLineSoFar limits.now.line pending.now piece → Replied limits.now (run_state_at D.Disk K.Clock engine.old clock.old disk.old) (line_kind limits.now piece) [] (run_state_at D.Disk K.Clock engine.new clock.new disk.new) }
     ensures whole { IsWhole engine.new ⊎ (tells_fault result ≡ true) }
     ensures tellable { IfSome result IsTellable }
     ensures serves { Serves D.Disk (tells_fault result ≡ true) engine.old engine.new disk.old disk.new }
@@ -117,7 +117,7 @@ fn reply<D: Disk, K: Clock, L: ledger::Ledger>(
 fn answer_line<D: Disk, O: Sink, K: Clock, L: ledger::Ledger>(
     alloc: Global,
     limits: &Limits,
-    pending: &Pending,
+    pending: &PartialLine,
     engine: &mut Engine,
     disk: &mut D,
     steps: &mut Steps<L>,
@@ -128,9 +128,9 @@ fn answer_line<D: Disk, O: Sink, K: Clock, L: ledger::Ledger>(
     requires ready { CanServe D.Disk limits.now engine.old disk.old }
     requires room { 512 ≤ capacity out.old }
     ensures kept { capacity out.old ≤ capacity out.new }
-    ensures ok { result ≡ Ok tt → D.tells → IsTied engine.old → (piece : List ℕ) → Stands limits.now.line pending.now piece → ToldLine limits.now (standing_at D.Disk K.Clock engine.old clock.old disk.old) (line_kind limits.now piece) (standing_at D.Disk K.Clock engine.new clock.new disk.new) (O.held sink.old) (O.held sink.new) }
-    ensures sink { result ≡ Err stop.Sink → D.tells → IsTied engine.old → (piece : List ℕ) → Stands limits.now.line pending.now piece → ToldFront limits.now (standing_at D.Disk K.Clock engine.old clock.old disk.old) (line_kind limits.now piece) (standing_at D.Disk K.Clock engine.new clock.new disk.new) (O.held sink.old) (O.held sink.new) }
-    ensures disk { result ≡ Err stop.Disk → D.tells → IsTied engine.old → (piece : List ℕ) → Stands limits.now.line pending.now piece → ToldFault limits.now (standing_at D.Disk K.Clock engine.old clock.old disk.old) (line_kind limits.now piece) (standing_at D.Disk K.Clock engine.new clock.new disk.new) (O.held sink.old) (O.held sink.new) }
+    ensures ok { result ≡ Ok tt → D.tells → IsTied engine.old → (piece : List ℕ) → IsLineSoFar limits.now.line pending.now piece → ToldLine limits.now (run_state_at D.Disk K.Clock engine.old clock.old disk.old) (line_kind limits.now piece) (run_state_at D.Disk K.Clock engine.new clock.new disk.new) (O.held sink.old) (O.held sink.new) }
+    ensures sink { result ≡ Err stop.Sink → D.tells → IsTied engine.old → (piece : List ℕ) → IsLineSoFar limits.now.line pending.now piece → ToldFront limits.now (run_state_at D.Disk K.Clock engine.old clock.old disk.old) (line_kind limits.now piece) (run_state_at D.Disk K.Clock engine.new clock.new disk.new) (O.held sink.old) (O.held sink.new) }
+    ensures disk { result ≡ Err stop.Disk → D.tells → IsTied engine.old → (piece : List ℕ) → IsLineSoFar limits.now.line pending.now piece → ToldFault limits.now (run_state_at D.Disk K.Clock engine.old clock.old disk.old) (line_kind limits.now piece) (run_state_at D.Disk K.Clock engine.new clock.new disk.new) (O.held sink.old) (O.held sink.new) }
     ensures whole { OnOk result (IsWhole engine.new) }
     ensures serves { Serves D.Disk (result ≡ Err stop.Disk) engine.old engine.new disk.old disk.new }
     ensures tells { TellsTo O.Sink result sink.old sink.new }
@@ -154,7 +154,7 @@ fn take_byte<D: Disk, O: Sink, K: Clock, L: ledger::Ledger>(
     alloc: Global,
     limits: &Limits,
     byte: u8,
-    pending: &mut Pending,
+    pending: &mut PartialLine,
     engine: &mut Engine,
     disk: &mut D,
     steps: &mut Steps<L>,
@@ -167,9 +167,9 @@ fn take_byte<D: Disk, O: Sink, K: Clock, L: ledger::Ledger>(
     requires room { 512 ≤ capacity out.old }
     ensures line { limits.now.line ≤ capacity pending.new.line }
     ensures kept { capacity out.old ≤ capacity out.new }
-    ensures ok { result ≡ Ok tt → D.tells → IsTied engine.old → GoesOn limits.now (byte ∷ []) pending.old (standing_at D.Disk K.Clock engine.old clock.old disk.old) (O.held sink.old) pending.new (standing_at D.Disk K.Clock engine.new clock.new disk.new) (O.held sink.new) }
-    ensures sink { result ≡ Err stop.Sink → D.tells → IsTied engine.old → BreaksOff limits.now (byte ∷ []) pending.old (standing_at D.Disk K.Clock engine.old clock.old disk.old) (O.held sink.old) (standing_at D.Disk K.Clock engine.new clock.new disk.new) (O.held sink.new) }
-    ensures disk { result ≡ Err stop.Disk → D.tells → IsTied engine.old → StopsIn limits.now (byte ∷ []) pending.old (standing_at D.Disk K.Clock engine.old clock.old disk.old) (O.held sink.old) (standing_at D.Disk K.Clock engine.new clock.new disk.new) (O.held sink.new) }
+    ensures ok { result ≡ Ok tt → D.tells → IsTied engine.old → RunGoesOn limits.now (byte ∷ []) pending.old (run_state_at D.Disk K.Clock engine.old clock.old disk.old) (O.held sink.old) pending.new (run_state_at D.Disk K.Clock engine.new clock.new disk.new) (O.held sink.new) }
+    ensures sink { result ≡ Err stop.Sink → D.tells → IsTied engine.old → BreaksOff limits.now (byte ∷ []) pending.old (run_state_at D.Disk K.Clock engine.old clock.old disk.old) (O.held sink.old) (run_state_at D.Disk K.Clock engine.new clock.new disk.new) (O.held sink.new) }
+    ensures disk { result ≡ Err stop.Disk → D.tells → IsTied engine.old → StopsIn limits.now (byte ∷ []) pending.old (run_state_at D.Disk K.Clock engine.old clock.old disk.old) (O.held sink.old) (run_state_at D.Disk K.Clock engine.new clock.new disk.new) (O.held sink.new) }
     ensures whole { OnOk result (IsWhole engine.new) }
     ensures serves { Serves D.Disk (result ≡ Err stop.Disk) engine.old engine.new disk.old disk.new }
     ensures tells { TellsTo O.Sink result sink.old sink.new }
@@ -192,7 +192,7 @@ pub fn feed<D: Disk, O: Sink, K: Clock, L: ledger::Ledger>(
     alloc: Global,
     limits: &Limits,
     bytes: &[u8],
-    pending: &mut Pending,
+    pending: &mut PartialLine,
     engine: &mut Engine,
     disk: &mut D,
     steps: &mut Steps<L>,
@@ -205,9 +205,9 @@ pub fn feed<D: Disk, O: Sink, K: Clock, L: ledger::Ledger>(
     requires room { 512 ≤ capacity out.old }
     ensures line { limits.now.line ≤ capacity pending.new.line }
     ensures kept { capacity out.old ≤ capacity out.new }
-    ensures ok { result ≡ Ok tt → D.tells → IsTied engine.old → GoesOn limits.now bytes.now pending.old (standing_at D.Disk K.Clock engine.old clock.old disk.old) (O.held sink.old) pending.new (standing_at D.Disk K.Clock engine.new clock.new disk.new) (O.held sink.new) }
-    ensures sink { result ≡ Err stop.Sink → D.tells → IsTied engine.old → BreaksOff limits.now bytes.now pending.old (standing_at D.Disk K.Clock engine.old clock.old disk.old) (O.held sink.old) (standing_at D.Disk K.Clock engine.new clock.new disk.new) (O.held sink.new) }
-    ensures disk { result ≡ Err stop.Disk → D.tells → IsTied engine.old → StopsIn limits.now bytes.now pending.old (standing_at D.Disk K.Clock engine.old clock.old disk.old) (O.held sink.old) (standing_at D.Disk K.Clock engine.new clock.new disk.new) (O.held sink.new) }
+    ensures ok { result ≡ Ok tt → D.tells → IsTied engine.old → RunGoesOn limits.now bytes.now pending.old (run_state_at D.Disk K.Clock engine.old clock.old disk.old) (O.held sink.old) pending.new (run_state_at D.Disk K.Clock engine.new clock.new disk.new) (O.held sink.new) }
+    ensures sink { result ≡ Err stop.Sink → D.tells → IsTied engine.old → BreaksOff limits.now bytes.now pending.old (run_state_at D.Disk K.Clock engine.old clock.old disk.old) (O.held sink.old) (run_state_at D.Disk K.Clock engine.new clock.new disk.new) (O.held sink.new) }
+    ensures disk { result ≡ Err stop.Disk → D.tells → IsTied engine.old → StopsIn limits.now bytes.now pending.old (run_state_at D.Disk K.Clock engine.old clock.old disk.old) (O.held sink.old) (run_state_at D.Disk K.Clock engine.new clock.new disk.new) (O.held sink.new) }
     ensures whole { OnOk result (IsWhole engine.new) }
     ensures serves { Serves D.Disk (result ≡ Err stop.Disk) engine.old engine.new disk.old disk.new }
     ensures tells { TellsTo O.Sink result sink.old sink.new }
@@ -227,7 +227,7 @@ pub fn feed<D: Disk, O: Sink, K: Clock, L: ledger::Ledger>(
 pub fn finish<D: Disk, O: Sink, K: Clock, L: ledger::Ledger>(
     alloc: Global,
     limits: &Limits,
-    pending: &Pending,
+    pending: &PartialLine,
     engine: &mut Engine,
     disk: &mut D,
     steps: &mut Steps<L>,
@@ -237,12 +237,12 @@ pub fn finish<D: Disk, O: Sink, K: Clock, L: ledger::Ledger>(
 ) -> Result<(), Stop>
     requires ready { CanServe D.Disk limits.now engine.old disk.old }
     requires room { 512 ≤ capacity out.old }
-    ensures ok { result ≡ Ok tt → D.tells → IsTied engine.old → (first : Standing) (old : Option (List ℕ)) (fed : List ℕ) → Going limits.now first old fed pending.now (standing_at D.Disk K.Clock engine.old clock.old disk.old) (O.held sink.old) → Told limits.now first (lines_of fed) (standing_at D.Disk K.Clock engine.new clock.new disk.new) old (O.held sink.new) }
-    ensures sink { result ≡ Err stop.Sink → D.tells → IsTied engine.old → (first : Standing) (old : Option (List ℕ)) (fed : List ℕ) → Going limits.now first old fed pending.now (standing_at D.Disk K.Clock engine.old clock.old disk.old) (O.held sink.old) → Broken limits.now first old (lines_of fed) (standing_at D.Disk K.Clock engine.new clock.new disk.new) (O.held sink.new) }
-    ensures disk { result ≡ Err stop.Disk → D.tells → IsTied engine.old → (first : Standing) (old : Option (List ℕ)) (fed : List ℕ) → Going limits.now first old fed pending.now (standing_at D.Disk K.Clock engine.old clock.old disk.old) (O.held sink.old) → Stopped limits.now first old (lines_of fed) (standing_at D.Disk K.Clock engine.new clock.new disk.new) (O.held sink.new) }
+    ensures ok { result ≡ Ok tt → D.tells → IsTied engine.old → (first : RunState) (old : Option (List ℕ)) (fed : List ℕ) → Going limits.now first old fed pending.now (run_state_at D.Disk K.Clock engine.old clock.old disk.old) (O.held sink.old) → AnsweredLines limits.now first (lines_of fed) (run_state_at D.Disk K.Clock engine.new clock.new disk.new) old (O.held sink.new) }
+    ensures sink { result ≡ Err stop.Sink → D.tells → IsTied engine.old → (first : RunState) (old : Option (List ℕ)) (fed : List ℕ) → Going limits.now first old fed pending.now (run_state_at D.Disk K.Clock engine.old clock.old disk.old) (O.held sink.old) → Broken limits.now first old (lines_of fed) (run_state_at D.Disk K.Clock engine.new clock.new disk.new) (O.held sink.new) }
+    ensures disk { result ≡ Err stop.Disk → D.tells → IsTied engine.old → (first : RunState) (old : Option (List ℕ)) (fed : List ℕ) → Going limits.now first old fed pending.now (run_state_at D.Disk K.Clock engine.old clock.old disk.old) (O.held sink.old) → Stopped limits.now first old (lines_of fed) (run_state_at D.Disk K.Clock engine.new clock.new disk.new) (O.held sink.new) }
     ensures whole { OnOk result (IsWhole engine.new) }
-    ensures some { result ≡ Err stop.Disk → Stands limits.now.line pending.now [] → ⊥ }
-    ensures clock { Stands limits.now.line pending.now [] → clock.new ≡ clock.old }
+    ensures some { result ≡ Err stop.Disk → IsLineSoFar limits.now.line pending.now [] → ⊥ }
+    ensures clock { IsLineSoFar limits.now.line pending.now [] → clock.new ≡ clock.old }
     ensures serves { Serves D.Disk (result ≡ Err stop.Disk) engine.old engine.new disk.old disk.new }
     ensures tells { TellsTo O.Sink result sink.old sink.new }
 {

@@ -15,15 +15,15 @@ ghost use Rattle.txn_engine.specs.View.{IsTied};
 ghost use Rattle.txn_model.specs.declared.world.World.{World};
 ghost use Rattle.txn_model.specs.Names.{NamesLawful};
 ghost use Rattle.txn_run.specs.Files.{LeavesOthers};
-ghost use Rattle.txn_run.specs.Going.{standing_at, Stands};
+ghost use Rattle.txn_run.specs.Going.{run_state_at, IsLineSoFar};
 ghost use Rattle.txn_run.specs.Promises.{KeepsPromises};
-ghost use Rattle.txn_run.specs.Run.{Ended, FaultIsLast, IsRan, IsOpened, IsUnstarted, IsQuiet, IsAnswered, Asks, DiskStopped, RunsOn, Took};
+ghost use Rattle.txn_run.specs.Run.{Ended, FaultIsLast, CameToLines, IsOpened, IsUnstarted, IsQuiet, IsAnswered, Asks, DiskStopped, RunsOn, Took};
 ghost use Rattle.txn_run.specs.Serving.{CanServe, Serves};
 ghost use Rattle.txn_run.specs.Words.{command_of};
 ghost use Rattle.txn_run.specs.declared.status.RunStatus.TheVariants as status;
 
 use crate::lines::{Stop, feed, finish, take_into};
-use crate::pending::Pending;
+use crate::partial_line::PartialLine;
 use crate::room::{CHUNK, Room, room_for};
 use crate::status::{RunStatus, unopened};
 use crate::words::names_of;
@@ -51,10 +51,8 @@ pub fn run<D: Disk, I: Source, O: Sink, K: Clock>(
     clock: &mut K,
 ) -> RunStatus
     requires limits { InRange limits.now }
-    ensures answers {
-        Asks words.now (λ names.
-            RunsOn D.Disk I.Source O.Sink K.Clock result limits.now names disk.old disk.new source.old source.new sink.old sink.new clock.old clock.new)
-    }
+    ensures answers { Asks words.now (λ names.
+        RunsOn D.Disk I.Source O.Sink K.Clock result limits.now names disk.old disk.new source.old source.new sink.old sink.new clock.old clock.new) }
     ensures images { Asks words.now (λ names. After D.Disk (KeepsAbove names) disk.old disk.new) }
     ensures always { Asks words.now (λ names. (floor : World) → AtEachMoment D.Disk (StandsAbove names floor) (StandsAbove names floor) disk.old disk.new) }
 
@@ -111,9 +109,7 @@ fn run_over<L: ledger::Ledger, D: Disk, I: Source, O: Sink, K: Clock>(
     requires names { NamesLawful names.items }
     requires topics { All (λ name. is_topic_name name ≡ true) names.items }
     requires limits { InRange limits.now }
-    ensures answers {
-        RunsOn D.Disk I.Source O.Sink K.Clock result limits.now names.items disk.old disk.new source.old source.new sink.old sink.new clock.old clock.new
-    }
+    ensures answers { RunsOn D.Disk I.Source O.Sink K.Clock result limits.now names.items disk.old disk.new source.old source.new sink.old sink.new clock.old clock.new }
     ensures images { After D.Disk (KeepsAbove names.items) disk.old disk.new }
     ensures lists { IsQuiet result → After D.Disk KeepsLists disk.old disk.new }
     ensures uncut { IsQuiet result → D.tells → KeepsAllDamaged (D.seen disk.old) (D.seen disk.new) }
@@ -164,7 +160,7 @@ fn run_in<L: ledger::Ledger, D: Disk, I: Source, O: Sink, K: Clock>(
     alloc: Global,
     limits: &Limits,
     chunk: &mut [u8],
-    pending: &mut Pending,
+    pending: &mut PartialLine,
     out: &mut Bytes,
     engine: &mut Engine,
     disk: &mut D,
@@ -174,14 +170,14 @@ fn run_in<L: ledger::Ledger, D: Disk, I: Source, O: Sink, K: Clock>(
     clock: &mut K,
 ) -> RunStatus
     requires chunk { length chunk.old ≡ 4096 }
-    requires pending { Stands limits.now.line pending.old [] }
+    requires pending { IsLineSoFar limits.now.line pending.old [] }
     requires line { limits.now.line ≤ capacity pending.old.line }
     requires out { 512 ≤ capacity out.old }
     requires ready { CanServe D.Disk limits.now engine.old disk.old }
-    ensures answers { D.tells → IsTied engine.old → (taken : List ℕ) × Consumes (I.left source.old) (I.left source.new) taken × Ended result limits.now (standing_at D.Disk K.Clock engine.old clock.old disk.old) (O.held sink.old) taken (standing_at D.Disk K.Clock engine.new clock.new disk.new) (O.held sink.new) (I.left source.new) }
+    ensures answers { D.tells → IsTied engine.old → (taken : List ℕ) × Consumes (I.left source.old) (I.left source.new) taken × Ended result limits.now (run_state_at D.Disk K.Clock engine.old clock.old disk.old) (O.held sink.old) taken (run_state_at D.Disk K.Clock engine.new clock.new disk.new) (O.held sink.new) (I.left source.new) }
     ensures taken { Took result limits.now (I.left source.old) (I.left source.new) clock.old clock.new }
     ensures stopped { result ≡ status.DiskFault → FaultIsLast (I.left source.old) (I.left source.new) (O.held sink.old) (O.held sink.new) }
-    ensures statuses { IsRan result }
+    ensures statuses { CameToLines result }
     ensures serves { Serves D.Disk (result ≡ status.DiskFault) engine.old engine.new disk.old disk.new }
     ensures read { result ≡ status.ReadFault → Rose (I.faults source.old) (I.faults source.new) }
     ensures write { result ≡ status.WriteFault → Rose (O.faults sink.old) (O.faults sink.new) }

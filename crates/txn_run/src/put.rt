@@ -6,7 +6,7 @@ ghost use Rattle.txn_base.specs.declared.reply.Reply.{Reply};
 ghost use Rattle.txn_wire.specs.Replies.{text_of};
 ghost use Rattle.txn_wire.specs.Short.{IsShort};
 ghost use Rattle.txn_engine.specs.Told.{IsTellable};
-ghost use Rattle.txn_run.specs.Told.{StandsFor};
+ghost use Rattle.txn_run.specs.Told.{IsToldFor};
 
 use std::alloc::{AllocError, Global};
 use txn_base::{Bytes, Failed, Refusal, Reply, Sink, put_all};
@@ -34,7 +34,7 @@ pub fn put_reply<O: Sink>(
     requires room { 512 ≤ capacity out.old }
     requires tellable { IsTellable reply.now }
     ensures kept { capacity out.old ≤ capacity out.new }
-    ensures bytes { (told : Reply) × StandsFor reply.now told × PutsAll (O.held sink.old) (O.held sink.new) result (text_of told) }
+    ensures bytes { (told : Reply) × IsToldFor reply.now told × PutsAll (O.held sink.old) (O.held sink.new) result (text_of told) }
     ensures beside { O.rest sink.new ≡ O.rest sink.old }
     ensures cause { HasCause (O.faults sink.old) (O.faults sink.new) result }
 {

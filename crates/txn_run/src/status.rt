@@ -1,6 +1,6 @@
 //! How a run ended.
 ghost use Rattle.std.specs.Prelude.{◌≡◌};
-ghost use Rattle.txn_run.specs.Status.{unopened};
+ghost use Rattle.txn_run.specs.Status.{status_unopened};
 
 use txn_base::{FileId, Usage};
 use txn_engine::EngineError;
@@ -28,7 +28,7 @@ pub enum RunStatus {
 
 /// The status of a run whose parts couldn't be opened.
 pub fn unopened(error: EngineError) -> RunStatus
-    ensures { result ≡ unopened error }
+    ensures { result ≡ status_unopened error }
 {
     match error {
         EngineError::Damaged { file, entry } => RunStatus::Damaged { file, entry },

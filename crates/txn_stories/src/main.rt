@@ -5,6 +5,7 @@
 mod bounds;
 mod compare;
 mod frames;
+mod machine;
 mod names;
 mod page;
 mod script;
@@ -12,7 +13,6 @@ mod story;
 mod sweep;
 mod teller;
 mod text;
-mod world;
 mod wrong;
 
 use crate::story::{Story, Told, is_head};

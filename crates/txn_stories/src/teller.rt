@@ -2,12 +2,12 @@
 use crate::bounds::lower;
 use crate::compare::{hex_of, same_bytes, same_lines, same_text};
 use crate::frames::file_bytes;
+use crate::machine::Machine;
 use crate::names::{choices_of, file_of, op_of};
 use crate::page::Page;
 use crate::script::{Came, Script};
 use crate::sweep::{Also, Past, seen_after, sweep};
 use crate::text::{first_word, number, put_text, words_of};
-use crate::world::World;
 use crate::wrong::Wrong;
 use std::alloc::{AllocError, Global};
 use std::mem;
@@ -33,7 +33,7 @@ pub struct Teller {
     /// The story with what came, where it is to be shown and not compared.
     pub page: Option<Page>,
     limits: Limits,
-    world: World,
+    world: Machine,
     asked: Asked,
     /// The run that is asked for, or the next one.
     script: Script,
@@ -60,7 +60,7 @@ impl Teller {
             failed: 0,
             page,
             limits: Limits::standard(),
-            world: World::new(alloc)?,
+            world: Machine::new(alloc)?,
             asked: Asked::Nothing,
             script: Script::new(alloc),
             want: Vec::new(alloc),
@@ -349,7 +349,7 @@ impl Teller {
 fn show_file(
     alloc: Global,
     page: &mut Page,
-    world: &World,
+    world: &Machine,
     name: &str,
     file: FileId,
     want: &[u8],

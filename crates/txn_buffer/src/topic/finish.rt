@@ -9,10 +9,10 @@ ghost use Rattle.txn_base.specs.Room.{capacity};
 ghost use Rattle.txn_base.specs.Moves.{After, FailsIn};
 ghost use Rattle.txn_model.specs.Skeletons.{topic_skeletons};
 ghost use Rattle.txn_model.specs.Topic.{marker_of};
-ghost use Rattle.txn_records.specs.Topics.{marker_of as marker_entry};
+ghost use Rattle.txn_records.specs.Topics.{marker_entry};
 ghost use Rattle.txn_buffer.specs.Ending.{IsNoneOr, with_reserved};
 ghost use Rattle.txn_buffer.specs.Record.{IsInGrammar};
-ghost use Rattle.txn_buffer.specs.View.{IsFrontOf, batch_of, with_entries, fenced};
+ghost use Rattle.txn_buffer.specs.View.{IsFrontOf, topic_batch, with_entries, with_failed_entries};
 
 use crate::front::Front;
 use crate::record::TopicRecord;
@@ -57,10 +57,10 @@ impl<R: RecordLog> Topic<R> {
         ensures stood { marker_of (topic_skeletons self.old.front) txn ≡ Some decision → IsOk result × (self.new ≡ self.old) × (disk.new ≡ disk.old) }
         ensures ok { OnOk result (marker_of (topic_skeletons self.old.front) txn ≡ None → self.new ≡ with_entries self.old (marker_entry txn decision ∷ []) 0) }
         ensures stands { OnOk result (marker_of (topic_skeletons self.new.front) txn ≡ Some decision) }
-        ensures err { OnErr result (self.new ≡ fenced self.old (marker_entry txn decision ∷ [])) }
+        ensures err { OnErr result (self.new ≡ with_failed_entries self.old (marker_entry txn decision ∷ [])) }
         ensures tied { IsFrontOf self.old → IsFrontOf self.new }
         ensures backed { Backed R.stands (D.image disk.new) self.new.content }
-        ensures images { After D.Disk (Appends R.mine R.stands self.old.content (batch_of (marker_entry txn decision ∷ []))) disk.old disk.new }
+        ensures images { After D.Disk (Appends R.mine R.stands self.old.content (topic_batch (marker_entry txn decision ∷ []))) disk.old disk.new }
         ensures others { ChangesOnly (R.mine self.old.content.key) (D.seen disk.old) (D.seen disk.new) }
         ensures cause { FailsIn D.Disk self.old.content.key.part disk.old disk.new result }
     {
@@ -81,10 +81,10 @@ impl<R: RecordLog> Topic<R> {
         requires unmarked { marker_of (topic_skeletons self.old.front) txn ≡ None }
         requires backed { Backed R.stands (D.image disk.old) self.old.content }
         ensures ok { OnOk result (self.new ≡ with_entries self.old (marker_entry txn decision ∷ []) 0) }
-        ensures err { OnErr result (self.new ≡ fenced self.old (marker_entry txn decision ∷ [])) }
+        ensures err { OnErr result (self.new ≡ with_failed_entries self.old (marker_entry txn decision ∷ [])) }
         ensures tied { IsFrontOf self.old → IsFrontOf self.new }
         ensures backed { Backed R.stands (D.image disk.new) self.new.content }
-        ensures images { After D.Disk (Appends R.mine R.stands self.old.content (batch_of (marker_entry txn decision ∷ []))) disk.old disk.new }
+        ensures images { After D.Disk (Appends R.mine R.stands self.old.content (topic_batch (marker_entry txn decision ∷ []))) disk.old disk.new }
         ensures others { ChangesOnly (R.mine self.old.content.key) (D.seen disk.old) (D.seen disk.new) }
         ensures cause { FailsIn D.Disk self.old.content.key.part disk.old disk.new result }
     {

@@ -8,9 +8,9 @@ ghost use Rattle.txn_base.specs.Moves.{After, FaultsIn};
 ghost use Rattle.txn_model.specs.Skeletons.{topic_skeleton, topic_skeletons};
 ghost use Rattle.txn_model.specs.Topic as topic;
 ghost use Rattle.txn_model.specs.Topic.{marker_of, part_allows, TopicLawful};
-ghost use Rattle.txn_buffer.specs.Mending.{IsSettledFrom, IsStepOf, IsUnchangedBut, IsInStep, IsBad, IsFirstBad, IsEntryAt, step_of, with_front};
+ghost use Rattle.txn_buffer.specs.Mending.{MayHaveSettled, Mends, IsRefusedStep, IsInStep, IsBad, IsFirstBadRecord, IsEntryAt, step_of, with_front};
 ghost use Rattle.txn_buffer.specs.Reads.{OnlyReads};
-ghost use Rattle.txn_buffer.specs.View.{IsFrontOf, total_of};
+ghost use Rattle.txn_buffer.specs.View.{IsFrontOf, topic_total};
 
 use crate::front::Front;
 use crate::record::TopicRecord;
@@ -29,20 +29,20 @@ impl<R: RecordLog> Topic<R> {
     ) -> Result<Progress, MendError>
         requires standing { self.old.content.standing ≡ looked_at → ⊥ }
         requires backed { Backed R.stands (D.image disk.old) self.old.content }
-        ensures idle { IsTrue self.old.whole → (self.new ≡ self.old) × (disk.new ≡ disk.old) × (steps.new ≡ steps.old) × (result ≡ Ok (record { at = total_of self.old; total = total_of self.old })) }
-        ensures ok { IfOk result (λ told. IsStepOf self.old self.new told) }
-        ensures err { OnErr result (IsUnchangedBut self.old self.new) }
-        ensures counted { OnOk result (steps.new ≡ steps.old + step_of self.old (total_of self.new)) }
-        ensures steps_most { steps.new ≤ steps.old + step_of self.old (total_of self.new) }
-        ensures settled { IsSettledFrom self.old.content self.new.content }
+        ensures idle { IsTrue self.old.whole → (self.new ≡ self.old) × (disk.new ≡ disk.old) × (steps.new ≡ steps.old) × (result ≡ Ok (record { at = topic_total self.old; total = topic_total self.old })) }
+        ensures ok { IfOk result (λ told. Mends self.old self.new told) }
+        ensures err { OnErr result (IsRefusedStep self.old self.new) }
+        ensures counted { OnOk result (steps.new ≡ steps.old + step_of self.old (topic_total self.new)) }
+        ensures steps_most { steps.new ≤ steps.old + step_of self.old (topic_total self.new) }
+        ensures settled { MayHaveSettled self.old.content self.new.content }
         ensures standing { self.new.content.standing ≡ looked_at → ⊥ }
 
         // What was settled is what the files stood for at the call.
         ensures found { D.tells → self.new.content.standing ≡ settled → R.stands self.old.content.key (D.seen disk.old) self.new.content.batches }
 
         // Damage is told of a record of this step, the first that is outside the grammar or not allowed after those before it.
-        ensures damaged { (place : ℕ) → result ≡ Err (MendError.Damaged place) → IsInStep self.old (total_of self.new) place }
-        ensures first_bad { (place : ℕ) → result ≡ Err (MendError.Damaged place) → D.tells → IsFrontOf self.old → IsFirstBad self.new.content.batches place }
+        ensures damaged { (place : ℕ) → result ≡ Err (MendError.Damaged place) → IsInStep self.old (topic_total self.new) place }
+        ensures first_bad { (place : ℕ) → result ≡ Err (MendError.Damaged place) → D.tells → IsFrontOf self.old → IsFirstBadRecord self.new.content.batches place }
         ensures tied { D.tells → IsFrontOf self.old → IsFrontOf self.new }
         ensures backed { Backed R.stands (D.image disk.new) self.new.content }
         ensures images { After D.Disk (Settles R.mine R.stands self.old.content) disk.old disk.new }
@@ -70,15 +70,15 @@ impl<R: RecordLog> Topic<R> {
         steps: &mut Steps<L>,
     ) -> Result<Vec<TopicRecord>, MendError>
         requires backed { Backed R.stands (D.image disk.old) self.now.content }
-        ensures count { IfOk result (λ staged. length staged.items ≡ step_of self.now (total_of self.now)) }
-        ensures few { OnOk result (length self.now.front + step_of self.now (total_of self.now) ≤ total_of self.now) }
-        ensures fits { total_of self.now < 2 ^ 64 }
+        ensures count { IfOk result (λ staged. length staged.items ≡ step_of self.now (topic_total self.now)) }
+        ensures few { OnOk result (length self.now.front + step_of self.now (topic_total self.now) ≤ topic_total self.now) }
+        ensures fits { topic_total self.now < 2 ^ 64 }
         ensures lawful { IfOk result (λ staged. TopicLawful (self.now.front ++ staged.items)) }
         ensures tied { D.tells → IsFrontOf self.now → IfOk result (λ staged. IsFrontOf (with_front self.now (self.now.front ++ staged.items))) }
-        ensures damaged { (place : ℕ) → result ≡ Err (MendError.Damaged place) → IsInStep self.now (total_of self.now) place }
-        ensures first_bad { (place : ℕ) → result ≡ Err (MendError.Damaged place) → D.tells → IsFrontOf self.now → IsFirstBad self.now.content.batches place }
-        ensures counted { OnOk result (steps.new ≡ steps.old + step_of self.now (total_of self.now)) }
-        ensures steps_most { steps.new ≤ steps.old + step_of self.now (total_of self.now) }
+        ensures damaged { (place : ℕ) → result ≡ Err (MendError.Damaged place) → IsInStep self.now (topic_total self.now) place }
+        ensures first_bad { (place : ℕ) → result ≡ Err (MendError.Damaged place) → D.tells → IsFrontOf self.now → IsFirstBadRecord self.now.content.batches place }
+        ensures counted { OnOk result (steps.new ≡ steps.old + step_of self.now (topic_total self.now)) }
+        ensures steps_most { steps.new ≤ steps.old + step_of self.now (topic_total self.now) }
         ensures reads { OnlyReads D.Disk self.now.content.key.part (result ≡ Err MendError.Fault) disk.old disk.new }
     {
         let at = self.front.len();
@@ -102,7 +102,7 @@ impl<R: RecordLog> Topic<R> {
         staged: &[TopicRecord],
         steps: &mut Steps<L>,
     ) -> Result<TopicRecord, MendError>
-        requires place { place < total_of self.now }
+        requires place { place < topic_total self.now }
         requires backed { Backed R.stands (D.image disk.old) self.now.content }
         ensures allowed { IfOk result (λ r. part_allows (topic_skeletons (self.now.front ++ staged.now)) (topic_skeleton r) ≡ true) }
         ensures told { D.tells → IfOk result (λ r. IsEntryAt self.now.content.batches place r) }
@@ -132,7 +132,7 @@ fn settle<D: Disk, R: RecordLog>(log: &mut R, disk: &mut D) -> Result<(), MendEr
     requires backed { Backed R.stands (D.image disk.old) (R.content log.old) }
     ensures ok { OnOk result ((R.content log.new).standing ≡ settled) }
     ensures err { IfErr result (λ e. e ≡ MendError.Fault) }
-    ensures content { IsSettledFrom (R.content log.old) (R.content log.new) }
+    ensures content { MayHaveSettled (R.content log.old) (R.content log.new) }
     ensures found { D.tells → OnOk result (R.stands (R.content log.old).key (D.seen disk.old) (R.content log.new).batches) }
     ensures unfound { OnErr result ((R.content log.new).standing ≡ settled → ⊥) }
     ensures backed { Backed R.stands (D.image disk.new) (R.content log.new) }

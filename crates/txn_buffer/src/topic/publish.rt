@@ -11,7 +11,7 @@ ghost use Rattle.txn_model.specs.Skeletons.{topic_skeletons};
 ghost use Rattle.txn_model.specs.Topic.{marker_of};
 ghost use Rattle.txn_buffer.specs.Adding.{AreBodies, ArePublished, messages_of, IsUnmarked, opens_for};
 ghost use Rattle.txn_buffer.specs.Record.{IsInGrammar};
-ghost use Rattle.txn_buffer.specs.View.{IsFrontOf, batch_of, total_of, with_entries, fenced};
+ghost use Rattle.txn_buffer.specs.View.{IsFrontOf, topic_batch, topic_total, with_entries, with_failed_entries};
 
 use crate::batch::{frame_size, records_of};
 use crate::error::TopicError;
@@ -28,17 +28,17 @@ impl<R: RecordLog> Topic<R> {
         requires whole { IsTrue self.old.whole }
         requires bodies { AreBodies self.old.limits (contents_of bodies.now) }
         requires backed { Backed R.stands (D.image disk.old) self.old.content }
-        ensures first { IfOk result (λ place. place ≡ total_of self.old) }
+        ensures first { IfOk result (λ place. place ≡ topic_total self.old) }
         ensures ok { OnOk result (self.new ≡ with_entries self.old (messages_of None (contents_of bodies.now)) self.old.reserved) }
-        ensures full { (result ≡ Err (TopicError.Full (total_of self.old))) ↔ (self.old.limits.log < total_of self.old + length bodies.now) }
-        ensures count { (count : ℕ) → result ≡ Err (TopicError.Full count) → count ≡ total_of self.old }
+        ensures full { (result ≡ Err (TopicError.Full (topic_total self.old))) ↔ (self.old.limits.log < topic_total self.old + length bodies.now) }
+        ensures count { (count : ℕ) → result ≡ Err (TopicError.Full count) → count ≡ topic_total self.old }
         ensures not_damaged { (place : ℕ) → result ≡ Err (TopicError.Damaged place) → ⊥ }
-        ensures fault { result ≡ Err TopicError.Fault → self.new ≡ fenced self.old (messages_of None (contents_of bodies.now)) }
+        ensures fault { result ≡ Err TopicError.Fault → self.new ≡ with_failed_entries self.old (messages_of None (contents_of bodies.now)) }
         ensures refused { (count : ℕ) → result ≡ Err (TopicError.Full count) → (self.new ≡ self.old) × (disk.new ≡ disk.old) }
         ensures no_memory { result ≡ Err TopicError.NoMemory → (self.new ≡ self.old) × (disk.new ≡ disk.old) }
         ensures tied { IsFrontOf self.old → IsFrontOf self.new }
         ensures backed { Backed R.stands (D.image disk.new) self.new.content }
-        ensures images { After D.Disk (Appends R.mine R.stands self.old.content (batch_of (messages_of None (contents_of bodies.now)))) disk.old disk.new }
+        ensures images { After D.Disk (Appends R.mine R.stands self.old.content (topic_batch (messages_of None (contents_of bodies.now)))) disk.old disk.new }
         ensures others { ChangesOnly (R.mine self.old.content.key) (D.seen disk.old) (D.seen disk.new) }
         ensures cause { FaultsIn D.Disk self.old.content.key.part disk.old disk.new (result ≡ Err TopicError.Fault) }
     {
@@ -56,17 +56,17 @@ impl<R: RecordLog> Topic<R> {
         requires unmarked { marker_of (topic_skeletons self.old.front) txn ≡ None }
         requires bodies { AreBodies self.old.limits (contents_of bodies.now) }
         requires backed { Backed R.stands (D.image disk.old) self.old.content }
-        ensures first { IfOk result (λ place. place ≡ total_of self.old) }
+        ensures first { IfOk result (λ place. place ≡ topic_total self.old) }
         ensures ok { OnOk result (self.new ≡ with_entries self.old (messages_of (Some txn) (contents_of bodies.now)) self.old.reserved) }
-        ensures full { (result ≡ Err (TopicError.Full (total_of self.old))) ↔ (self.old.limits.log < total_of self.old + length bodies.now) }
-        ensures count { (count : ℕ) → result ≡ Err (TopicError.Full count) → count ≡ total_of self.old }
+        ensures full { (result ≡ Err (TopicError.Full (topic_total self.old))) ↔ (self.old.limits.log < topic_total self.old + length bodies.now) }
+        ensures count { (count : ℕ) → result ≡ Err (TopicError.Full count) → count ≡ topic_total self.old }
         ensures not_damaged { (place : ℕ) → result ≡ Err (TopicError.Damaged place) → ⊥ }
-        ensures fault { result ≡ Err TopicError.Fault → self.new ≡ fenced self.old (messages_of (Some txn) (contents_of bodies.now)) }
+        ensures fault { result ≡ Err TopicError.Fault → self.new ≡ with_failed_entries self.old (messages_of (Some txn) (contents_of bodies.now)) }
         ensures refused { (count : ℕ) → result ≡ Err (TopicError.Full count) → (self.new ≡ self.old) × (disk.new ≡ disk.old) }
         ensures no_memory { result ≡ Err TopicError.NoMemory → (self.new ≡ self.old) × (disk.new ≡ disk.old) }
         ensures tied { IsFrontOf self.old → IsFrontOf self.new }
         ensures backed { Backed R.stands (D.image disk.new) self.new.content }
-        ensures images { After D.Disk (Appends R.mine R.stands self.old.content (batch_of (messages_of (Some txn) (contents_of bodies.now)))) disk.old disk.new }
+        ensures images { After D.Disk (Appends R.mine R.stands self.old.content (topic_batch (messages_of (Some txn) (contents_of bodies.now)))) disk.old disk.new }
         ensures others { ChangesOnly (R.mine self.old.content.key) (D.seen disk.old) (D.seen disk.new) }
         ensures cause { FaultsIn D.Disk self.old.content.key.part disk.old disk.new (result ≡ Err TopicError.Fault) }
     {
@@ -83,17 +83,17 @@ impl<R: RecordLog> Topic<R> {
         requires unmarked { IsUnmarked self.old.front txn }
         requires bodies { AreBodies self.old.limits (contents_of bodies.now) }
         requires backed { Backed R.stands (D.image disk.old) self.old.content }
-        ensures first { IfOk result (λ place. place ≡ total_of self.old) }
+        ensures first { IfOk result (λ place. place ≡ topic_total self.old) }
         ensures ok { OnOk result (self.new ≡ with_entries self.old (messages_of txn (contents_of bodies.now)) self.old.reserved) }
-        ensures full { (result ≡ Err (TopicError.Full (total_of self.old))) ↔ (self.old.limits.log < total_of self.old + length bodies.now) }
-        ensures count { (count : ℕ) → result ≡ Err (TopicError.Full count) → count ≡ total_of self.old }
+        ensures full { (result ≡ Err (TopicError.Full (topic_total self.old))) ↔ (self.old.limits.log < topic_total self.old + length bodies.now) }
+        ensures count { (count : ℕ) → result ≡ Err (TopicError.Full count) → count ≡ topic_total self.old }
         ensures not_damaged { (place : ℕ) → result ≡ Err (TopicError.Damaged place) → ⊥ }
-        ensures fault { result ≡ Err TopicError.Fault → self.new ≡ fenced self.old (messages_of txn (contents_of bodies.now)) }
+        ensures fault { result ≡ Err TopicError.Fault → self.new ≡ with_failed_entries self.old (messages_of txn (contents_of bodies.now)) }
         ensures refused { (count : ℕ) → result ≡ Err (TopicError.Full count) → (self.new ≡ self.old) × (disk.new ≡ disk.old) }
         ensures no_memory { result ≡ Err TopicError.NoMemory → (self.new ≡ self.old) × (disk.new ≡ disk.old) }
         ensures tied { IsFrontOf self.old → IsFrontOf self.new }
         ensures backed { Backed R.stands (D.image disk.new) self.new.content }
-        ensures images { After D.Disk (Appends R.mine R.stands self.old.content (batch_of (messages_of txn (contents_of bodies.now)))) disk.old disk.new }
+        ensures images { After D.Disk (Appends R.mine R.stands self.old.content (topic_batch (messages_of txn (contents_of bodies.now)))) disk.old disk.new }
         ensures others { ChangesOnly (R.mine self.old.content.key) (D.seen disk.old) (D.seen disk.new) }
         ensures cause { FaultsIn D.Disk self.old.content.key.part disk.old disk.new (result ≡ Err TopicError.Fault) }
     {
@@ -138,7 +138,7 @@ fn prepare<R: RecordLog>(
 ) -> Result<Vec<Bytes>, AllocError>
     requires few { reserved ≤ 1 }
     requires bodies { ArePublished (contents_of bodies.now) }
-    ensures batch { IfOk result (λ batch. contents_of batch.items ≡ batch_of (messages_of txn (contents_of bodies.now))) }
+    ensures batch { IfOk result (λ batch. contents_of batch.items ≡ topic_batch (messages_of txn (contents_of bodies.now))) }
     ensures entries { IfOk result (λ batch. map topic_entry_of (contents_of batch.items) ≡ messages_of txn (contents_of bodies.now)) }
     ensures grammar { IfOk result (λ batch. All IsInGrammar (contents_of batch.items)) }
     ensures spare { OnOk result (length bodies.now + reserved ≤ R.spare log.new) }

@@ -13,7 +13,7 @@ ghost use Rattle.txn_records.specs.Topics.{IsMessage};
 ghost use Rattle.txn_buffer.specs.Reads.{OnlyReads};
 ghost use Rattle.txn_buffer.specs.Reading.{ReadsUpTo, is_shown_after};
 ghost use Rattle.txn_buffer.specs.Record.{IsInGrammar, IsOutside};
-ghost use Rattle.txn_buffer.specs.View.{IsFrontOf, total_of};
+ghost use Rattle.txn_buffer.specs.View.{IsFrontOf, topic_total};
 
 use crate::error::TopicError;
 use crate::front::Front;

@@ -9,7 +9,7 @@ ghost use Rattle.txn_model.specs.Skeletons.{coord_skeleton, coord_skeletons};
 ghost use Rattle.txn_model.specs.Coord.{coord_allows, is_open};
 ghost use Rattle.txn_model.specs.Deadlines.{is_undriven};
 ghost use Rattle.txn_model.specs.Table.{decision_entry};
-ghost use Rattle.txn_coordinator.specs.View.{coord_batch, logged, fenced, reserving, IsFrontOf};
+ghost use Rattle.txn_coordinator.specs.View.{coord_batch, with_entry, with_failed_entry, reserving, IsFrontOf};
 ghost use Rattle.txn_coordinator.specs.Calls.{MayFail, begin_refusal, next_txn, add_refusal, has_part, status_in_view, with_part, decide_refusal, decided, decided_status, closing_of_view};
 
 use crate::coordinator::Coordinator;
@@ -38,8 +38,8 @@ impl<R: RecordLog> Coordinator<R> {
         requires allowed { coord_allows 62 (coord_skeletons (self.old).front) (coord_skeleton entry) ≡ true }
         requires backed { Backed R.stands (D.image disk.old) (self.old).content }
         ensures failed { MayFail result }
-        ensures ok { OnOk result (self.new ≡ logged self.old entry) }
-        ensures fault { result ≡ Err CoordError.Fault → self.new ≡ fenced self.old entry }
+        ensures ok { OnOk result (self.new ≡ with_entry self.old entry) }
+        ensures fault { result ≡ Err CoordError.Fault → self.new ≡ with_failed_entry self.old entry }
         ensures no_memory { result ≡ Err CoordError.NoMemory → self.new ≡ self.old }
         ensures unwritten { result ≡ Err CoordError.NoMemory → disk.new ≡ disk.old }
         ensures tied { IsFrontOf self.old → IsFrontOf self.new }
@@ -87,8 +87,8 @@ impl<R: RecordLog> Coordinator<R> {
         requires backed { Backed R.stands (D.image disk.old) (self.old).content }
         ensures refused { MatchOption (begin_refusal self.old timeout) (MayFail result) (λ refusal. result ≡ Err refusal) }
         ensures told { IfOk result (λ txn. txn ≡ next_txn self.old) }
-        ensures ok { OnOk result (self.new ≡ logged self.old (CoordEntry.New (next_txn self.old) (now + timeout))) }
-        ensures fault { result ≡ Err CoordError.Fault → self.new ≡ fenced self.old (CoordEntry.New (next_txn self.old) (now + timeout)) }
+        ensures ok { OnOk result (self.new ≡ with_entry self.old (CoordEntry.New (next_txn self.old) (now + timeout))) }
+        ensures fault { result ≡ Err CoordError.Fault → self.new ≡ with_failed_entry self.old (CoordEntry.New (next_txn self.old) (now + timeout)) }
         ensures same { IfErr result (λ e. (e ≡ CoordError.Fault → ⊥) → self.new ≡ self.old) }
         ensures unwritten { IfErr result (λ e. (e ≡ CoordError.Fault → ⊥) → disk.new ≡ disk.old) }
         ensures tied { IsFrontOf self.old → IsFrontOf self.new }
@@ -117,7 +117,7 @@ impl<R: RecordLog> Coordinator<R> {
         ensures repeated { add_refusal self.old txn part ≡ None → has_part self.old txn part ≡ true → IsOk result }
         ensures nothing { has_part self.old txn part ≡ true → disk.new ≡ disk.old }
         ensures ok { OnOk result (self.new ≡ with_part self.old txn part) }
-        ensures fault { result ≡ Err CoordError.Fault → self.new ≡ fenced self.old (CoordEntry.AddPart txn part) }
+        ensures fault { result ≡ Err CoordError.Fault → self.new ≡ with_failed_entry self.old (CoordEntry.AddPart txn part) }
         ensures same { IfErr result (λ e. (e ≡ CoordError.Fault → ⊥) → self.new ≡ self.old) }
         ensures unwritten { IfErr result (λ e. (e ≡ CoordError.Fault → ⊥) → disk.new ≡ disk.old) }
         ensures tied { IsFrontOf self.old → IsFrontOf self.new }
@@ -149,7 +149,7 @@ impl<R: RecordLog> Coordinator<R> {
         ensures nothing { is_open (status_in_view self.old txn) ≡ false → disk.new ≡ disk.old }
         ensures told { IfOk result (λ status. status ≡ decided_status self.old txn decision) }
         ensures ok { OnOk result (self.new ≡ decided self.old txn decision) }
-        ensures fault { result ≡ Err CoordError.Fault → self.new ≡ fenced self.old (decision_entry txn decision) }
+        ensures fault { result ≡ Err CoordError.Fault → self.new ≡ with_failed_entry self.old (decision_entry txn decision) }
         ensures same { IfErr result (λ e. (e ≡ CoordError.Fault → ⊥) → self.new ≡ self.old) }
         ensures unwritten { IfErr result (λ e. (e ≡ CoordError.Fault → ⊥) → disk.new ≡ disk.old) }
         ensures tied { IsFrontOf self.old → IsFrontOf self.new }
@@ -189,8 +189,8 @@ impl<R: RecordLog> Coordinator<R> {
         requires reserved { (self.old).reserved ≡ 1 }
         requires undriven { is_undriven (status_in_view self.old txn) ≡ true }
         requires backed { Backed R.stands (D.image disk.old) (self.old).content }
-        ensures ok { OnOk result (self.new ≡ reserving 0 (logged self.old (closing_of_view self.old txn))) }
-        ensures fault { OnErr result (self.new ≡ fenced self.old (closing_of_view self.old txn)) }
+        ensures ok { OnOk result (self.new ≡ reserving 0 (with_entry self.old (closing_of_view self.old txn))) }
+        ensures fault { OnErr result (self.new ≡ with_failed_entry self.old (closing_of_view self.old txn)) }
         ensures tied { IsFrontOf self.old → IsFrontOf self.new }
         ensures backed { Backed R.stands (D.image disk.new) (self.new).content }
         ensures images { After D.Disk (Appends R.mine R.stands (self.old).content (coord_batch (closing_of_view self.old txn))) disk.old disk.new }

@@ -4,11 +4,11 @@ ghost use Rattle.txn_base.specs.declared.file_id.FileId.{FileId};
 ghost use Rattle.txn_base.specs.Content.{settled, looked_at, Backed, Settles};
 ghost use Rattle.txn_base.specs.Disk.{ChangesOnly};
 ghost use Rattle.txn_base.specs.Moves.{After, FaultsIn};
-ghost use Rattle.txn_coordinator.specs.Mending.{AreRecordsTo, AreReplayed, IsBadRecord, IsSettledFrom, Mends, Stays};
+ghost use Rattle.txn_coordinator.specs.Mending.{AreRecordsTo, AreReplayed, IsFirstBadRecord, IsSettledFrom, Mends, IsRefusedStep};
 ghost use Rattle.txn_model.specs.Coord.{CoordLawful};
 ghost use Rattle.txn_model.specs.Deadlines.{low_of};
 ghost use Rattle.txn_model.specs.Skeletons.{coord_skeletons};
-ghost use Rattle.txn_coordinator.specs.View.{length_of, IsFrontOf};
+ghost use Rattle.txn_coordinator.specs.View.{coord_total, IsFrontOf};
 
 use crate::coordinator::Coordinator;
 use crate::replay::replay;
@@ -66,8 +66,8 @@ impl<R: RecordLog> Coordinator<R> {
         ensures nothing { IsTrue (self.old).whole → self.new ≡ self.old }
         ensures idle { IsTrue (self.old).whole → (disk.new ≡ disk.old) × (steps.new ≡ steps.old) }
         ensures ok { OnOk result (Mends self.old self.new) }
-        ensures told { IfOk result (λ progress. progress ≡ record { at = length (self.new).front; total = length_of self.new }) }
-        ensures err { OnErr result (Stays self.old self.new) }
+        ensures told { IfOk result (λ progress. progress ≡ record { at = length (self.new).front; total = coord_total self.new }) }
+        ensures err { OnErr result (IsRefusedStep self.old self.new) }
         ensures settled { IfErr result (λ e. (e ≡ MendError.Fault → ⊥) → IsSettledFrom (self.old).content (self.new).content) }
         ensures standing { (self.new).content.standing ≡ looked_at → ⊥ }
 
@@ -75,7 +75,7 @@ impl<R: RecordLog> Coordinator<R> {
         ensures found { D.tells → (self.new).content.standing ≡ settled → R.stands (self.old).content.key (D.seen disk.old) (self.new).content.batches }
         ensures read { D.tells → OnOk result (AreRecordsTo (self.new).content (length (self.old).front) (length (self.new).front) (self.new).front) }
         ensures damaged { (place : ℕ) → result ≡ Err (MendError.Damaged place) → (length (self.old).front ≤ place) × (place < length (self.old).front + (self.old).limits.step) }
-        ensures bad { D.tells → AreReplayed named (self.old).content (self.old).front → (place : ℕ) → result ≡ Err (MendError.Damaged place) → IsBadRecord named (self.new).content place }
+        ensures bad { D.tells → AreReplayed named (self.old).content (self.old).front → (place : ℕ) → result ≡ Err (MendError.Damaged place) → IsFirstBadRecord named (self.new).content place }
         ensures counted { OnOk result (steps.new + length (self.old).front ≡ steps.old + length (self.new).front) }
         ensures few { steps.new ≤ steps.old + (self.old).limits.step }
         ensures tied { D.tells → IsFrontOf self.old → IsFrontOf self.new }

@@ -9,7 +9,7 @@ ghost use Rattle.txn_ledger.specs.Found.{KeepsList, KeepsDamaged};
 ghost use Rattle.txn_ledger.specs.Ledger.{StandsIn};
 ghost use Rattle.txn_model.specs.Deadlines.{low_of};
 ghost use Rattle.txn_model.specs.Sound.{ledger_file};
-ghost use Rattle.txn_coordinator.specs.View.{length_of};
+ghost use Rattle.txn_coordinator.specs.View.{coord_total};
 ghost use Rattle.txn_engine.specs.Kept.{IsCoordinator};
 ghost use Rattle.txn_engine.specs.Opening.{IsCoordinatorOf, IsDamagedLog};
 
@@ -59,8 +59,8 @@ pub fn open_coordinator<D: Disk, L: ledger::Ledger>(
 /// All of its log is replayed.
 fn is_whole(coordinator: &Coordinator<Ledger>) -> bool
     ensures whole { result ≡ coordinator.now.whole }
-    ensures within { length coordinator.now.front ≤ length_of coordinator.now }
-    ensures all { IsTrue coordinator.now.whole → length coordinator.now.front ≡ length_of coordinator.now }
+    ensures within { length coordinator.now.front ≤ coord_total coordinator.now }
+    ensures all { IsTrue coordinator.now.whole → length coordinator.now.front ≡ coord_total coordinator.now }
 {
     matches!(coordinator.state(), PartState::Whole)
 }

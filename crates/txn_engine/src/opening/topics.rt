@@ -5,7 +5,7 @@ ghost use Rattle.txn_base.specs.Disk.{Elsewhere, Changes};
 ghost use Rattle.txn_base.specs.Limits.{InRange};
 ghost use Rattle.txn_base.specs.Moves.{After, FaultsIn};
 ghost use Rattle.txn_base.specs.declared.file_id.FileId.{FileId};
-ghost use Rattle.txn_buffer.specs.View.{total_of};
+ghost use Rattle.txn_buffer.specs.View.{topic_total};
 ghost use Rattle.txn_ledger.specs.Found.{KeepsList, KeepsDamaged};
 ghost use Rattle.txn_ledger.specs.Ledger.{StandsIn};
 ghost use Rattle.txn_model.specs.Sound.{ledger_file};
@@ -91,8 +91,8 @@ fn open_topic<D: Disk, L: ledger::Ledger>(
 fn is_whole(topic: &Topic<Ledger>) -> bool
     ensures whole { result ≡ topic.now.whole }
     ensures lawful { TopicLawful topic.now.front }
-    ensures within { length topic.now.front ≤ total_of topic.now }
-    ensures all { IsTrue topic.now.whole → length topic.now.front ≡ total_of topic.now }
+    ensures within { length topic.now.front ≤ topic_total topic.now }
+    ensures all { IsTrue topic.now.whole → length topic.now.front ≡ topic_total topic.now }
 {
     matches!(topic.state(), PartState::Whole)
 }

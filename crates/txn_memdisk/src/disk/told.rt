@@ -2,8 +2,8 @@
 ghost use Rattle.std.specs.Prelude.{◌≡◌, ◌⊎◌, map, IfOk, OnOk, OnErr};
 ghost use Rattle.std.specs.List.{Contains};
 ghost use Rattle.txn_base.specs.declared.file_id.FileId.{FileId};
-ghost use Rattle.txn_memdisk.specs.Files.{nothing, name_of};
-ghost use Rattle.txn_memdisk.specs.Disk.{entries_of, waits_of, faults_of};
+ghost use Rattle.txn_memdisk.specs.Files.{nothing, file_id_of};
+ghost use Rattle.txn_memdisk.specs.Disk.{file_entries, waits_of, faults_of};
 
 use crate::disk::MemDisk;
 use crate::fault::FaultAt;
@@ -35,15 +35,15 @@ impl MemDisk {
     /// The names of the files that there are, in the order in which they were made. A file that isn't among them was never
     /// written.
     pub fn files(&self) -> Result<Vec<FileId>, AllocError>
-        ensures names { IfOk result (λ names. names.items ≡ map name_of self.now.files.items) }
-        ensures others { IfOk result (λ names. (id : FileId) → Contains names.items id ⊎ (entries_of self.now id ≡ nothing)) }
+        ensures names { IfOk result (λ names. names.items ≡ map file_id_of self.now.files.items) }
+        ensures others { IfOk result (λ names. (id : FileId) → Contains names.items id ⊎ (file_entries self.now id ≡ nothing)) }
     {
         names_of(self.alloc, &self.files)
     }
 }
 
 fn names_of(alloc: Global, files: &[MemFile]) -> Result<Vec<FileId>, AllocError>
-    ensures { IfOk result (λ names. names.items ≡ map name_of files.now) }
+    ensures { IfOk result (λ names. names.items ≡ map file_id_of files.now) }
 {
     files.iter().map(|file| file.id).collect(alloc)
 }

@@ -1,6 +1,6 @@
 -- Laws of the states of the table.
 
--- A state stays lawful where neither world nor flights nor fences change, and where an allowed batch is settled.
+-- A state stays lawful where neither world nor flights change, nor which parts are rebuilt, and where an allowed batch is settled.
 pub use Rattle.txn_model.proofs.LawfulSteps.{same_state, settled_state}
 -- Recovery keeps a lawful state, its names, its markers and what is whole; its part is whole then; and the coordinator's log
 -- stays where another part is recovered.

@@ -1,11 +1,11 @@
-use Rattle.txn_model.proofs.LawfulSteps.{same_state, settled_state, fenced_state, resolved_state, rebuilt_state}
+use Rattle.txn_model.proofs.LawfulSteps.{same_state, settled_state, failed_state, resolved_state, rebuilt_state}
 use Rattle.txn_model.proofs.state_laws.changes_keep_states_lawful.Goals as goal
 
 pub returns-clause-settled : goal.returns-clause-settled
 returns-clause-settled c = settled_state
 
-pub returns-clause-fenced : goal.returns-clause-fenced
-returns-clause-fenced c = fenced_state
+pub returns-clause-failed : goal.returns-clause-failed
+returns-clause-failed c = failed_state
 
 pub returns-clause-resolved : goal.returns-clause-resolved
 returns-clause-resolved c = resolved_state

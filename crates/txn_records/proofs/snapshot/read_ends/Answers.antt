@@ -5,7 +5,7 @@ use Rattle.txn_base.specs.Frames.{Record}
 use Rattle.txn_base.specs.Records.{ends_record}
 use Rattle.txn_base.specs.Snapshots.{ends_piece}
 use Rattle.txn_records.specs.declared.error.RecordError.TheVariants as why
-use Rattle.txn_records.proofs.Pieces.{pieces_more, pieces_all, piece_due, record_at, item_at, contents_length}
+use Rattle.txn_records.proofs.Pieces.{pieces_more, pieces_all, piece_due, ends_record_at, item_at, contents_length}
 use Rattle.txn_records.proofs.snapshot.read_ends.Goals as goal
 
 pub returns-in-Err-clause-bad : goal.returns-in-Err-clause-bad
@@ -15,7 +15,7 @@ returns-in-Err-clause-bad c same ends fit counted are =
     let at : c.as_slice.result.now ≡ get_or (contents_of c.args.records.now) c.loop-bytes.bytes-index c.as_slice.result.now =
     item_at c.args.records.now c.loop-bytes.bytes-index c.bytes-item.result c.as_slice.result.now c.loop-bytes-test.true c.bytes-item.is c.as_slice.ensures in
     let piece : c.as_slice.result.now ≡ ends_record (ends_piece ends c.loop-bytes.bytes-index) =
-    at ∙ ap (λ (l : List Record). get_or l c.loop-bytes.bytes-index c.as_slice.result.now) are ∙ record_at 63 ends c.loop-bytes.bytes-index c.as_slice.result.now (omega (arith, below, ap length are)) in
+    at ∙ ap (λ (l : List Record). get_or l c.loop-bytes.bytes-index c.as_slice.result.now) are ∙ ends_record_at 63 ends c.loop-bytes.bytes-index c.as_slice.result.now (omega (arith, below, ap length are)) in
     let bad : c.in-Err.why ≡ why.Bad = cc in
     c.in-Err.ensures.bad (ap Err bad) (ends_piece ends c.loop-bytes.bytes-index) (omega (arith, due.2, c.min-count.ensures, c.len.ensures, c.loop-bytes.found.ok.0)) piece
 

@@ -1,7 +1,7 @@
 use Rattle.std.proofs.Common.{subst}
 use Rattle.txn_base.specs.Outside.{PutsAll}
 use Rattle.txn_wire.specs.Replies.{text_of}
-use Rattle.txn_run.proofs.Fenced.{some_fenced}
+use Rattle.txn_run.proofs.RebuiltParts.{some_unrebuilt}
 use Rattle.txn_run.proofs.Telling.{told_line, told_front, told_fault, puts_grow, ends_with_fault, not_whole}
 use Rattle.txn_run.proofs.Serving.{serves_as, tells_none}
 use Rattle.txn_run.proofs.lines.answer_line.Goals as goal
@@ -14,7 +14,7 @@ returns-then-is_whole-clause-ok g c ok told tied piece stands =
 pub returns-in-Ok-clause-disk : goal.returns-in-Ok-clause-disk
 returns-in-Ok-clause-disk g c stopped told tied piece stands =
     let put = c.in-Ok.ensures.bytes in
-    told_fault _ _ _ c.in-Some.reply put.0 _ _ _ (c.in-Some.ensures.some told tied piece stands) put.1 (not_whole _ _ _ c.if-is_whole.false c.is_whole.ensures.whole c.in-Some.ensures.whole) (some_fenced _ _ c.if-is_whole.false c.is_whole.ensures.whole) put.2
+    told_fault _ _ _ c.in-Some.reply put.0 _ _ _ (c.in-Some.ensures.some told tied piece stands) put.1 (not_whole _ _ _ c.if-is_whole.false c.is_whole.ensures.whole c.in-Some.ensures.whole) (some_unrebuilt _ _ c.if-is_whole.false c.is_whole.ensures.whole) put.2
 
 pub returns-in-Some-clause-sink : goal.returns-in-Some-clause-sink
 returns-in-Some-clause-sink g c stopped told tied piece stands =

@@ -1,7 +1,7 @@
 use Rattle.std.proofs.Common.{◌≡◌, ◌≤◌, ◌+◌, [], take, length, arith, length-take, refl, ap, Ok, Err, inr, ◌∙◌}
 use Rattle.std.proofs.KnownBytes.{Consumes-kept}
 use Rattle.txn_model.specs.Cut.{lines_of}
-use Rattle.txn_run.proofs.Fenced.{all_rebuilt}
+use Rattle.txn_run.proofs.RebuiltParts.{all_rebuilt}
 use Rattle.txn_run.proofs.Feeding.{reads_more, reads_broken, reads_stopped}
 use Rattle.txn_run.proofs.Serving.{serves_then, serves_as, tells_then}
 use Rattle.txn_run.proofs.Reading.{reads_kept, reads_end, came_none, came_more, none_taken, some_taken, some_more, none_so_far, never_none, write_no_too_much, write_no_ok, write_no_read_fault, disk_no_too_much, disk_no_ok, disk_no_read_fault}

@@ -1,8 +1,8 @@
 use Rattle.std.proofs.Common.{◌∙◌, inl, inr, refl, sym, ap, Err, subst}
 use Rattle.std.proofs.KnownBytes.{Keeps-refl}
-use Rattle.txn_model.specs.Replies.{Standing}
-use Rattle.txn_run.specs.Going.{standing}
-use Rattle.txn_run.specs.Run.{Ended, IsEarly, IsAnswered, first_standing}
+use Rattle.txn_model.specs.Replies.{RunState}
+use Rattle.txn_run.specs.Going.{run_state}
+use Rattle.txn_run.specs.Run.{Ended, IsEarly, IsAnswered, first_run_state}
 use Rattle.txn_run.proofs.Counted.{counted_since}
 use Rattle.txn_run.proofs.Keeping.{leaves_then, counts_then, counts_but}
 use Rattle.txn_run.proofs.Running.{opening_above, running_above, image_above, first_is, leaves_here, early_here, damage_of, fault_of, not_answered}
@@ -18,10 +18,10 @@ pub returns-in-Ok-open_disk-clause-answers : goal.returns-in-Ok-open_disk-clause
 returns-in-Ok-open_disk-clause-answers g c told sound =
     let opened = c.in-Ok-open_disk.ensures.opened in
     let ran = c.run_in.ensures.answers told (c.in-Ok-open_disk.ensures.tied told) in
-    let first : Standing = first_standing c.args.names.items sound.world (g.K.Clock.moments c.args.clock.now) (g.D.Disk.faults c.open_disk.new.disk) (g.D.Disk.part_faults c.open_disk.new.disk) in
-    let last : Standing = standing c.run_in.new.engine (g.K.Clock.moments c.run_in.new.clock) (g.D.Disk.faults c.run_in.new.disk) (g.D.Disk.part_faults c.run_in.new.disk) in
+    let first : RunState = first_run_state c.args.names.items sound.world (g.K.Clock.moments c.args.clock.now) (g.D.Disk.faults c.open_disk.new.disk) (g.D.Disk.part_faults c.open_disk.new.disk) in
+    let last : RunState = run_state c.run_in.new.engine (g.K.Clock.moments c.run_in.new.clock) (g.D.Disk.faults c.run_in.new.disk) (g.D.Disk.part_faults c.run_in.new.disk) in
     let ended : Ended c.run_in.result c.args.limits.now first (g.O.Sink.held c.args.sink.now) ran.0 last (g.O.Sink.held c.run_in.new.sink) (g.I.Source.left c.run_in.new.source) =
-    subst (λ (s : Standing). Ended c.run_in.result c.args.limits.now s (g.O.Sink.held c.args.sink.now) ran.0 last (g.O.Sink.held c.run_in.new.sink) (g.I.Source.left c.run_in.new.source))
+    subst (λ (s : RunState). Ended c.run_in.result c.args.limits.now s (g.O.Sink.held c.args.sink.now) ran.0 last (g.O.Sink.held c.run_in.new.sink) (g.I.Source.left c.run_in.new.source))
     (first_is c.args.names.items c.in-Ok-open_disk.engine sound.world sound.stands.named (c.in-Ok-open_disk.ensures.table told sound.world sound.stands) (g.K.Clock.moments c.args.clock.now) (g.D.Disk.faults c.open_disk.new.disk) (g.D.Disk.part_faults c.open_disk.new.disk))
     ran.2 in
     inr (record {

@@ -8,7 +8,7 @@ use Rattle.txn_base.specs.Frames.{records}
 use Rattle.txn_model.specs.Skeletons.{topic_skeletons}
 use Rattle.txn_model.specs.Topic.{marker_of}
 use Rattle.txn_buffer.specs.Record.{IsInGrammar}
-use Rattle.txn_buffer.specs.View.{TopicView, total_of}
+use Rattle.txn_buffer.specs.View.{TopicView, topic_total}
 use Rattle.txn_buffer.proofs.Staged.{marker_allowed}
 use Rattle.txn_buffer.proofs.Tied.{tied_more, records_after}
 use Rattle.txn_buffer.proofs.topic.Topic.add_marker.Goals as goal
@@ -57,8 +57,8 @@ returns-clause-tied g c =
     let ok : g.R.RecordLog.content c.append.new.self ≡ landed was (contents_of c.from_ref.result.now) = search rules in
     let one : contents_of c.from_ref.result.now ≡ bytes ∷ [] = ap contents_of c.from_ref.ensures.value in
     let content : g.R.RecordLog.content c.append.new.self ≡ landed c.args.self.now.content (bytes ∷ []) = ok ∙ ap (landed was) one ∙ ap (λ (v : TopicView). landed v.content (bytes ∷ [])) c.self.view_is in
-    let whole : length c.args.self.now.front ≡ total_of c.args.self.now =
-    ap (λ (v : TopicView). length v.front) (sym c.self.view_is) ∙ c.self.invariant.count (ap (λ (v : TopicView). v.whole) c.self.view_is ∙ c.requires.whole) ∙ ap total_of c.self.view_is in
+    let whole : length c.args.self.now.front ≡ topic_total c.args.self.now =
+    ap (λ (v : TopicView). length v.front) (sym c.self.view_is) ∙ c.self.invariant.count (ap (λ (v : TopicView). v.whole) c.self.view_is ∙ c.requires.whole) ∙ ap topic_total c.self.view_is in
     tied_more c.args.self.now _ (bytes ∷ []) whole
     (c.add-2.ensures.entries ∙ ap (λ (e : TopicEntry). c.self.inside.front.entries ++ e ∷ []) c.of.ensures ∙ ap (λ (v : TopicView). v.front ++ topic_entry_of bytes ∷ []) c.self.view_is)
     (ap (λ (k : LedgerContent). k.batches) content) (All-cons IsInGrammar bytes [] c.write_marker.ensures.grammar (All-nil IsInGrammar))

@@ -5,7 +5,7 @@ use Rattle.txn_base.specs.Content.{LedgerContent, landed}
 use Rattle.txn_base.specs.Decoded.{topic_entry_of}
 use Rattle.txn_base.specs.Room.{Roomy}
 use Rattle.txn_buffer.specs.Adding.{AreBodies, IsMessageOf}
-use Rattle.txn_buffer.specs.View.{TopicView, total_of}
+use Rattle.txn_buffer.specs.View.{TopicView, topic_total}
 use Rattle.txn_buffer.proofs.Adding.{are_published, are_messages}
 use Rattle.txn_buffer.proofs.Tied.{tied_more}
 use Rattle.txn_buffer.proofs.topic.Topic.add_messages.Goals as goal
@@ -22,8 +22,8 @@ add_messages-requires-clause-each g c =
 pub returns-clause-tied : goal.returns-clause-tied
 returns-clause-tied g c =
     let batch = contents_of c.in_ok-batch.batch.items in
-    let was : length c.args.self.now.front ≡ total_of c.args.self.now =
-    ap (λ (v : TopicView). length v.front) (sym c.self.view_is) ∙ c.self.invariant.count (ap (λ (v : TopicView). v.whole) c.self.view_is ∙ c.requires.whole) ∙ ap total_of c.self.view_is in
+    let was : length c.args.self.now.front ≡ topic_total c.args.self.now =
+    ap (λ (v : TopicView). length v.front) (sym c.self.view_is) ∙ c.self.invariant.count (ap (λ (v : TopicView). v.whole) c.self.view_is ∙ c.requires.whole) ∙ ap topic_total c.self.view_is in
     let front : c.add_messages.new.self.entries ≡ c.args.self.now.front ++ map topic_entry_of batch =
     c.add_messages.ensures.entries ∙ ap (λ l. l ++ map topic_entry_of (contents_of c.deref-2.result.now)) (c.prepare.ensures.front ∙ ap (λ (v : TopicView). v.front) c.self.view_is)
     ∙ ap (λ (l : List Roomy). c.args.self.now.front ++ map topic_entry_of (contents_of l)) c.deref-2.ensures.value in

@@ -2,8 +2,8 @@ use Rattle.std.proofs.Common.{◌≡◌, ◌≤◌, ◌++◌, List, length, ap, 
 use Rattle.std.proofs.lemmas.Result.{err_from_is_err_and}
 use Rattle.txn_base.specs.declared.entry.TopicEntry.{TopicEntry}
 use Rattle.txn_base.specs.declared.part.MendError.TheVariants.{Damaged}
-use Rattle.txn_buffer.specs.Mending.{IsSettledFrom}
-use Rattle.txn_buffer.specs.View.{TopicView, IsFrontOf, total_of}
+use Rattle.txn_buffer.specs.Mending.{MayHaveSettled}
+use Rattle.txn_buffer.specs.View.{TopicView, IsFrontOf, topic_total}
 use Rattle.txn_buffer.proofs.Staged.{same_error}
 use Rattle.txn_buffer.proofs.Tied.{tied_same, tied_settled, with_content}
 use Rattle.txn_buffer.proofs.topic.Topic.mend_step.Goals as goal
@@ -13,8 +13,8 @@ use Rattle.txn_buffer.proofs.topic.Topic.mend_step.Goals.{After-settle}
 -- the front is tied after the list was settled
 tied_now : (g : Over) (c : After-settle g) → IsFrontOf c.args.self.now → IsFrontOf (with_content c.args.self.now (g.R.RecordLog.content c.settle.new.log))
 tied_now g c tied =
-    let within : length c.args.self.now.front ≤ total_of c.args.self.now = subst (λ (v : TopicView). length v.front ≤ total_of v) c.self.view_is c.self.invariant.within in
-    tied_settled c.args.self.now (g.R.RecordLog.content c.settle.new.log) within (subst (λ (v : TopicView). IsSettledFrom v.content (g.R.RecordLog.content c.settle.new.log)) c.self.view_is c.settle.ensures.content) tied
+    let within : length c.args.self.now.front ≤ topic_total c.args.self.now = subst (λ (v : TopicView). length v.front ≤ topic_total v) c.self.view_is c.self.invariant.within in
+    tied_settled c.args.self.now (g.R.RecordLog.content c.settle.new.log) within (subst (λ (v : TopicView). MayHaveSettled v.content (g.R.RecordLog.content c.settle.new.log)) c.self.view_is c.settle.ensures.content) tied
 
 pub returns-in_err-staged-clause-first_bad : goal.returns-in_err-staged-clause-first_bad
 returns-in_err-staged-clause-first_bad g c = λ place same tells tied.

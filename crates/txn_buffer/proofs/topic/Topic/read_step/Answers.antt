@@ -8,7 +8,7 @@ use Rattle.txn_base.specs.Frames.{records}
 use Rattle.txn_model.specs.Skeletons.{topic_skeleton, topic_skeletons}
 use Rattle.txn_model.specs.Topic.{part_allows, TopicLawful}
 use Rattle.txn_buffer.specs.Mending.{with_front, IsBad, IsEntryAt}
-use Rattle.txn_buffer.specs.View.{TopicView, IsFrontOf, total_of}
+use Rattle.txn_buffer.specs.View.{TopicView, IsFrontOf, topic_total}
 use Rattle.txn_buffer.proofs.OnlyReading.{reads_on, reads_as}
 use Rattle.txn_buffer.proofs.Staged.{lawful_more, same_error}
 use Rattle.txn_buffer.proofs.Tied.{tied_one, first_bad_at}
@@ -38,7 +38,7 @@ loop-place-preserved g c =
     let more : v.front ++ c.push.new.self.items ≡ (v.front ++ items) ++ e ∷ [] = ap (λ (l : List TopicEntry). v.front ++ l) pushed ∙ sym (append_assoc v.front items (e ∷ [])) in
     let longer : length c.push.new.self.items ≡ length items + 1 = ap length pushed ∙ length-append items (e ∷ []) in
     let at : length (v.front ++ items) ≡ c.loop-place.place = length-append v.front items ∙ k.count in
-    let total : c.len.result ≡ total_of v = c.len.ensures ∙ ap total_of c.self.view_is in
+    let total : c.len.result ≡ topic_total v = c.len.ensures ∙ ap topic_total c.self.view_is in
     let was : c.len-at.result ≡ length v.front = c.len-at.ensures.value ∙ ap (λ (w : TopicView). length w.front) c.self.view_is in
     record {
       count = omega (arith, k.count, longer);

@@ -10,7 +10,7 @@ use Rattle.txn_model.specs.Coord.{status_of}
 use Rattle.txn_model.specs.Skeletons.{coord_skeletons}
 use Rattle.txn_model.proofs.Laws.Names.{few_names}
 use Rattle.txn_coordinator.specs.Calls.{has_part}
-use Rattle.txn_coordinator.specs.View.{length_of}
+use Rattle.txn_coordinator.specs.View.{coord_total}
 use Rattle.txn_engine.proofs.AtView.{told_at, tell_at, goes_at, goes_for}
 use Rattle.txn_engine.proofs.Begun.{unknown_add_told, foreign_add_told, add_answer, add_fits, added_tellable, added_kept, no_fault_add}
 use Rattle.txn_engine.proofs.BegunGoes.{added_goes}
@@ -79,7 +79,7 @@ returns-clause-goes g c =
     (added_goes g.D.Disk _ c.self.invariant (subst IsWhole (sym c.self.view_is) c.requires.whole) c.args.disk.now c.add-added.new.disk
     (subst (IsBacked (g.D.Disk.image c.args.disk.now)) (sym c.self.view_is) c.requires.backed) c.args.txn c.args.part.now c.in-Some.number
     (ap (λ (ns : List (List ℕ)). part_of ns c.args.part.now) (sym c.deref.ensures.value) ∙ sym c.part_of.ensures.value ∙ c.in-Some.is) (grind (arith, nat_tests, c.if-txn-ne0.false))
-    (no_fault_add (status_of (coord_skeletons c.self.inside.coordinator.front) c.args.txn) (has_part c.self.inside.coordinator c.args.txn c.in-Some.number) (full_log c.self.inside.coordinator.limits (length_of c.self.inside.coordinator) 1))
+    (no_fault_add (status_of (coord_skeletons c.self.inside.coordinator.front) c.args.txn) (has_part c.self.inside.coordinator c.args.txn c.in-Some.number) (full_log c.self.inside.coordinator.limits (coord_total c.self.inside.coordinator) 1))
     c.add-added.result c.add-added.new.self
     (add_fits c.args.txn c.in-Some.number (length c.self.inside.names.items) (search rules) (search rules) c.in-Some.ensures.within.0 within (few_names c.self.inside.names.items c.self.invariant.names))
     c.add-added.ensures.refused c.add-added.ensures.repeated c.add-added.ensures.nothing c.add-added.ensures.ok c.add-added.ensures.same c.add-added.ensures.unwritten c.add-added.ensures.tied c.add-added.ensures.backed c.add-added.ensures.images c.add-added.ensures.others c.add-added.ensures.cause))

@@ -8,7 +8,7 @@ use Rattle.txn_engine.specs.Told.{RoseFor}
 use Rattle.txn_engine.proofs.Faults.{named_wider}
 use Rattle.txn_base.specs.declared.reply.Refusal.TheVariants as no
 use Rattle.txn_base.specs.declared.reply.Reply.TheVariants as reply
-use Rattle.txn_engine.specs.Ending.{end_of}
+use Rattle.txn_engine.specs.Ending.{end_request}
 use Rattle.txn_engine.proofs.Decided.{early_end, foreign_end}
 use Rattle.txn_engine.proofs.Early.{no_row, its_row}
 use Rattle.txn_engine.proofs.engine.Engine.end.Goals as goal
@@ -46,7 +46,7 @@ returns-clause-named g c =
     named_wider c.reserve.new.self.names (RoseFor (g.D.Disk.faults c.args.disk.now) (g.D.Disk.faults c.decide_and_drive.new.disk) (g.D.Disk.part_faults c.args.disk.now) (g.D.Disk.part_faults c.decide_and_drive.new.disk)) c.args.self.now.names (RoseFor (g.D.Disk.faults c.args.disk.now) (g.D.Disk.faults c.decide_and_drive.new.disk) (g.D.Disk.part_faults c.args.disk.now) (g.D.Disk.part_faults c.decide_and_drive.new.disk)) c.reserve.ensures.same.names (λ p grew. grew) (fault_name c.decide_and_drive.result) c.decide_and_drive.ensures.named
 
 pub returns-then-txn-ne0-clause-early : goal.returns-then-txn-ne0-clause-early
-returns-then-txn-ne0-clause-early g c = its_row c.args.self.now c.args.self.now refl (end_of c.args.decision c.args.txn) (reply.No (no.UnknownCoordinator c.args.txn.most)) (no.UnknownCoordinator c.args.txn.most) (foreign_end c.args.self.now.limits c.args.self.now c.args.txn c.args.decision (grind (arith, nat_tests, c.if-txn-ne0.true))) (inl refl)
+returns-then-txn-ne0-clause-early g c = its_row c.args.self.now c.args.self.now refl (end_request c.args.decision c.args.txn) (reply.No (no.UnknownCoordinator c.args.txn.most)) (no.UnknownCoordinator c.args.txn.most) (foreign_end c.args.self.now.limits c.args.self.now c.args.txn c.args.decision (grind (arith, nat_tests, c.if-txn-ne0.true))) (inl refl)
 
 pub returns-clause-early : goal.returns-clause-early
-returns-clause-early g c = no_row c.args.self.now c.args.self.now refl (end_of c.args.decision c.args.txn) c.decide_and_drive.result (early_end c.args.self.now.limits c.args.self.now c.args.txn c.args.decision (grind (arith, nat_tests, c.if-txn-ne0.false)))
+returns-clause-early g c = no_row c.args.self.now c.args.self.now refl (end_request c.args.decision c.args.txn) c.decide_and_drive.result (early_end c.args.self.now.limits c.args.self.now c.args.txn c.args.decision (grind (arith, nat_tests, c.if-txn-ne0.false)))

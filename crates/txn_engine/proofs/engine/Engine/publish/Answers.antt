@@ -4,7 +4,7 @@ use Rattle.txn_base.specs.Bytes.{contents_of}
 use Rattle.txn_base.specs.declared.reply.Reply.TheVariants as reply
 use Rattle.txn_base.specs.Content.{Appends}
 use Rattle.txn_buffer.specs.Adding.{messages_of}
-use Rattle.txn_buffer.specs.View.{batch_of}
+use Rattle.txn_buffer.specs.View.{topic_batch}
 use Rattle.txn_ledger.specs.Ledger.{IsFile, StandsIn}
 use Rattle.txn_engine.specs.Damage.{is_damage}
 use Rattle.txn_engine.specs.Kept.{IsEngine}
@@ -94,7 +94,7 @@ returns-clause-goes g c =
     let found = knows _ c.self.invariant c.args.topic.now c.in-Some.number (ap (λ (ns : List (List ℕ)). part_of ns c.args.topic.now) (sym c.deref.ensures.value) ∙ sym c.part_of.ensures.value ∙ c.in-Some.is) in
     goes_to g.D.Disk _ _ _ _ _ _ c.args.disk.now c.add_messages-published.new.disk c.self.view_is (sym c.publish_reply.ensures) (put_is _ _ _ _ found c.add_messages-published.new.topic)
     (published_goes g.D.Disk _ c.self.invariant (subst IsWhole (sym c.self.view_is) c.requires.whole) c.args.disk.now c.add_messages-published.new.disk (subst (IsBacked (g.D.Disk.image c.args.disk.now)) (sym c.self.view_is) c.requires.backed) c.args.topic.now c.args.txn c.args.bodies.now c.in-Some.number (ap (λ (ns : List (List ℕ)). part_of ns c.args.topic.now) (sym c.deref.ensures.value) ∙ sym c.part_of.ensures.value ∙ c.in-Some.is) (sym c.foreign.ensures ∙ c.in_default-foreign.is) (sym (ap (are_too_big c.self.inside.limits) c.as_slice.ensures) ∙ sym c.are_too_big.ensures ∙ c.if-are_too_big.false) c.index_mut.result.now (at_known _ _ _ _ found _ c.index_mut.ensures.value) (free_here _ _ _ found c.args.txn c.why_not.result c.index_mut.result.now c.index_mut.ensures.value (why_view _ c.args.self.now c.in-Some.number c.args.txn c.why_not.result c.self.view_is c.why_not.ensures) c.in_default-why_not.is) c.requires.some
-    c.add_messages-published.new.topic c.add_messages-published.result _ (after_call c.index_mut.result.now c.add_messages-published.new.topic c.args.txn (contents_of c.deref-2.result.now) c.args.bodies.now c.add_messages-published.result _ c.args.disk.now c.add_messages-published.new.disk (ap contents_of c.deref-2.ensures.value ∙ c.in-Ok-bytes_of.ensures.copies ∙ c.as_slice-2.ensures) c.add_messages-published.ensures.ok c.add_messages-published.ensures.fault c.add_messages-published.ensures.refused c.add_messages-published.ensures.no_memory c.add_messages-published.ensures.not_damaged) (full_here c.self.inside.limits _ _ _ c.args.bodies.now _ (is_topic_at _ c.self.invariant _ _ found.below (at_known _ _ _ _ found _ c.index_mut.ensures.value)).limits_are (count_of c.deref-2.result.now c.args.bodies.now (ap contents_of c.deref-2.ensures.value ∙ c.in-Ok-bytes_of.ensures.copies ∙ c.as_slice-2.ensures)) c.add_messages-published.ensures.full) (batch_records c.self.inside.limits c.self.invariant.range c.args.txn (search rules) c.args.bodies.now (are_bodies c.self.inside.limits c.self.inside.limits c.args.bodies.now c.args.bodies.now refl c.self.invariant.range refl (subst (λ (x : List (List ℕ)). All IsUtf8 x) c.as_slice-2.ensures c.in-Ok-bytes_of.ensures.texts) (sym (ap (are_too_big c.self.inside.limits) c.as_slice.ensures) ∙ sym c.are_too_big.ensures ∙ c.if-are_too_big.false) c.requires.some).each) (λ n e. (c.add_messages-published.ensures.refused n e).1) (λ e. (c.add_messages-published.ensures.no_memory e).1) c.add_messages-published.ensures.tied c.add_messages-published.ensures.backed (subst (λ (bs : List (List ℕ)). After g.D.Disk (Appends IsFile StandsIn c.index_mut.result.now.content (batch_of (messages_of c.args.txn bs))) c.args.disk.now c.add_messages-published.new.disk) (ap contents_of c.deref-2.ensures.value ∙ c.in-Ok-bytes_of.ensures.copies ∙ c.as_slice-2.ensures) c.add_messages-published.ensures.images) c.add_messages-published.ensures.others c.add_messages-published.ensures.cause)
+    c.add_messages-published.new.topic c.add_messages-published.result _ (after_call c.index_mut.result.now c.add_messages-published.new.topic c.args.txn (contents_of c.deref-2.result.now) c.args.bodies.now c.add_messages-published.result _ c.args.disk.now c.add_messages-published.new.disk (ap contents_of c.deref-2.ensures.value ∙ c.in-Ok-bytes_of.ensures.copies ∙ c.as_slice-2.ensures) c.add_messages-published.ensures.ok c.add_messages-published.ensures.fault c.add_messages-published.ensures.refused c.add_messages-published.ensures.no_memory c.add_messages-published.ensures.not_damaged) (full_here c.self.inside.limits _ _ _ c.args.bodies.now _ (is_topic_at _ c.self.invariant _ _ found.below (at_known _ _ _ _ found _ c.index_mut.ensures.value)).limits_are (count_of c.deref-2.result.now c.args.bodies.now (ap contents_of c.deref-2.ensures.value ∙ c.in-Ok-bytes_of.ensures.copies ∙ c.as_slice-2.ensures)) c.add_messages-published.ensures.full) (batch_records c.self.inside.limits c.self.invariant.range c.args.txn (search rules) c.args.bodies.now (are_bodies c.self.inside.limits c.self.inside.limits c.args.bodies.now c.args.bodies.now refl c.self.invariant.range refl (subst (λ (x : List (List ℕ)). All IsUtf8 x) c.as_slice-2.ensures c.in-Ok-bytes_of.ensures.texts) (sym (ap (are_too_big c.self.inside.limits) c.as_slice.ensures) ∙ sym c.are_too_big.ensures ∙ c.if-are_too_big.false) c.requires.some).each) (λ n e. (c.add_messages-published.ensures.refused n e).1) (λ e. (c.add_messages-published.ensures.no_memory e).1) c.add_messages-published.ensures.tied c.add_messages-published.ensures.backed (subst (λ (bs : List (List ℕ)). After g.D.Disk (Appends IsFile StandsIn c.index_mut.result.now.content (topic_batch (messages_of c.args.txn bs))) c.args.disk.now c.add_messages-published.new.disk) (ap contents_of c.deref-2.ensures.value ∙ c.in-Ok-bytes_of.ensures.copies ∙ c.as_slice-2.ensures) c.add_messages-published.ensures.images) c.add_messages-published.ensures.others c.add_messages-published.ensures.cause)
 
 pub returns-in_default-clause-undamaged : goal.returns-in_default-clause-undamaged
 returns-in_default-clause-undamaged g c = unknown_sound c.args.topic.now c.unknown_part.result c.unknown_part.ensures

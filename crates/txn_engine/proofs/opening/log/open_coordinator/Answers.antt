@@ -1,7 +1,7 @@
 use Rattle.std.proofs.Common.{ap, sym, ◌∙◌, Err}
 use Rattle.txn_model.specs.Sound.{ledger_file}
 use Rattle.txn_engine.proofs.OpeningFiles.{mended_keeps, others_then, not_damaged, part_none, part_then, part_at, part_but}
-use Rattle.txn_engine.proofs.OpeningLog.{opening_step, told_step, log_of, same_content, fewer, damaged_log, not_fault}
+use Rattle.txn_engine.proofs.OpeningLog.{opening_step, told_step, opening_is_log, same_log_content, fewer, damaged_log, not_fault}
 use Rattle.txn_engine.proofs.OpeningTopic.{unmended_file, unmended_fault}
 use Rattle.txn_engine.proofs.opening.log.open_coordinator.Goals as goal
 
@@ -27,7 +27,7 @@ returns-in-Err-mend_step-clause-damaged g c file entry e =
     let is = unmended_file (ledger_file 0) file entry c.in-Err-mend_step.error (ap Err (sym c.unmended.ensures) ∙ e) in (
       is.0,
       λ told. damaged_log c.args.named c.loop-file.coordinator c.mend_step.new.self (g.D.Disk.seen c.args.disk.now (ledger_file 0))
-          (same_content c.loop-file.coordinator.content c.mend_step.new.self.content was.log.settled_is (now.settled (λ fault. not_fault entry (sym is.1 ∙ fault)))) (was.told told) entry (now.bad told (was.told told).replayed entry (ap Err is.1)),
+          (same_log_content c.loop-file.coordinator.content c.mend_step.new.self.content was.log.settled_is (now.settled (λ fault. not_fault entry (sym is.1 ∙ fault)))) (was.told told) entry (now.bad told (was.told told).replayed entry (ap Err is.1)),
     )
 
 pub returns-in-Err-mend_step-clause-images : goal.returns-in-Err-mend_step-clause-images
@@ -43,7 +43,7 @@ returns-in-Err-mend_step-clause-cause g c =
 
 pub returns-clause-told : goal.returns-clause-told
 returns-clause-told g c = λ told.
-    log_of c.args.limits.now c.args.named c.loop-file.coordinator (g.D.Disk.seen c.args.disk.now (ledger_file 0)) c.loop-file.invariant.log (sym c.is_whole.ensures.whole ∙ c.loop-file-test.false) (c.loop-file.invariant.told told)
+    opening_is_log c.args.limits.now c.args.named c.loop-file.coordinator (g.D.Disk.seen c.args.disk.now (ledger_file 0)) c.loop-file.invariant.log (sym c.is_whole.ensures.whole ∙ c.loop-file-test.false) (c.loop-file.invariant.told told)
 
 pub loop-file-smaller : goal.loop-file-smaller
 loop-file-smaller g c =

@@ -1,7 +1,7 @@
 use Rattle.std.proofs.Common.{ap, sym, ◌∙◌, Err}
 use Rattle.txn_model.specs.Sound.{ledger_file}
 use Rattle.txn_engine.proofs.OpeningFiles.{mended_keeps, others_then, not_damaged, part_none, part_then, part_at, part_but}
-use Rattle.txn_engine.proofs.OpeningTopic.{opening_step, told_step, topic_of, damaged_topic, unmended_file, unmended_fault}
+use Rattle.txn_engine.proofs.OpeningTopic.{opening_step, told_step, opening_is_topic, damaged_topic, unmended_file, unmended_fault}
 use Rattle.txn_engine.proofs.opening.topics.open_topic.Goals as goal
 
 pub loop-file-preserved : goal.loop-file-preserved
@@ -42,7 +42,7 @@ returns-in-Err-mend_step-clause-cause g c =
 
 pub returns-clause-told : goal.returns-clause-told
 returns-clause-told g c = λ told.
-    topic_of c.args.limits.now c.args.part c.loop-file.topic (g.D.Disk.seen c.args.disk.now (ledger_file c.args.part)) c.loop-file.invariant.part (sym c.is_whole.ensures.whole ∙ c.loop-file-test.false) c.is_whole.ensures.lawful (c.loop-file.invariant.told told)
+    opening_is_topic c.args.limits.now c.args.part c.loop-file.topic (g.D.Disk.seen c.args.disk.now (ledger_file c.args.part)) c.loop-file.invariant.part (sym c.is_whole.ensures.whole ∙ c.loop-file-test.false) c.is_whole.ensures.lawful (c.loop-file.invariant.told told)
 
 pub returns-in-Err-mend_step-clause-uncut : goal.returns-in-Err-mend_step-clause-uncut
 returns-in-Err-mend_step-clause-uncut g c = λ tells.

@@ -1,5 +1,5 @@
 use Rattle.txn_core.proofs.Lines.{request_steps, lines_steps, rests_mirror}
-use Rattle.txn_core.proofs.laws.lines_are_steps.Goals as goal
+use Rattle.txn_core.proofs.core_laws.lines_are_steps.Goals as goal
 
 pub returns-clause-request : goal.returns-clause-request
 returns-clause-request c = request_steps

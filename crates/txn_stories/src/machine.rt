@@ -7,7 +7,7 @@ use txn_memdisk::{Choice, FaultAt, MemDisk};
 
 /// The disk of a story, or one for each thing that a crash may have left of it; and what there was before the last crash.
 #[derive(Drop)]
-pub struct World {
+pub struct Machine {
     alloc: Global,
     pub disks: Vec<MemDisk>,
     faults: Vec<FaultAt>,
@@ -16,11 +16,11 @@ pub struct World {
     crashed: Vec<MemDisk>,
 }
 
-impl World {
-    pub fn new(alloc: Global) -> Result<World, AllocError> {
+impl Machine {
+    pub fn new(alloc: Global) -> Result<Machine, AllocError> {
         let mut disks = Vec::new(alloc);
         disks.push(MemDisk::new(alloc, &[])?)?;
-        Ok(World {
+        Ok(Machine {
             alloc,
             disks,
             faults: Vec::new(alloc),

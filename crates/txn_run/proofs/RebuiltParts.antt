@@ -5,7 +5,7 @@ use Rattle.std.proofs.lemmas.List.Elements.{All-nil, All-cons, All-head, All-tai
 use Rattle.txn_buffer.specs.View.{TopicView}
 use Rattle.txn_engine.specs.Table.{table_of, unrebuilt_from}
 use Rattle.txn_engine.specs.View.{EngineView, IsWhole}
-use Rattle.txn_run.specs.Told.{AllRebuilt, SomeFenced}
+use Rattle.txn_run.specs.Told.{AllRebuilt, SomeUnrebuilt}
 
 no_topic_by : (e whole : Bool) (rest : Bool) → IsTrue whole → rest ≡ false → (if e then not whole else rest) ≡ false
 no_topic_by true whole rest is later = ap not is
@@ -40,13 +40,13 @@ some_topic k [] none = absurd (none (All-nil (λ t. IsTrue t.whole)))
 some_topic k (t ∷ ts) none = topic_by k t ts t.whole refl (λ is. some_topic (suc k) ts (λ all. none (All-cons (λ t. IsTrue t.whole) t ts is all)))
 
 -- Where the test says that not every part is rebuilt, the table names one that isn't.
-pub some_fenced : (v : EngineView) (b : Bool) → b ≡ false → IsTrue b ↔ IsWhole v → SomeFenced (table_of v)
-some_fenced v b is_false test = by v.coord.whole refl
+pub some_unrebuilt : (v : EngineView) (b : Bool) → b ≡ false → IsTrue b ↔ IsWhole v → SomeUnrebuilt (table_of v)
+some_unrebuilt v b is_false test = by v.coord.whole refl
   where
     never : IsWhole v → ⊥
     never whole = true≢false (sym (test.1 whole) ∙ is_false)
 
-    by : (whole : Bool) → v.coord.whole ≡ whole → SomeFenced (table_of v)
+    by : (whole : Bool) → v.coord.whole ≡ whole → SomeUnrebuilt (table_of v)
     by false is = (0, ap not is)
     by true is =
         let rest = some_topic 1 v.topics (λ all. never (record { coord = is; topics = all })) in

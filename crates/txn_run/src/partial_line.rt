@@ -7,20 +7,20 @@ use txn_base::Bytes;
 /// The piece of a line that has come so far, in room that was taken before. Of a line that is too long its first bytes are
 /// kept until it ends, as many as a line may have, and nothing of what comes behind them.
 #[derive(Debug, Drop)]
-pub struct Pending {
+pub struct PartialLine {
     pub line: Bytes,
     pub long: bool,
 }
 
-impl Pending {
-    ghost use Rattle.txn_run.specs.Going.{Stands};
+impl PartialLine {
+    ghost use Rattle.txn_run.specs.Going.{IsLineSoFar};
 
     /// Adds a byte of the line, which may have so many.
     pub fn add(&mut self, limit: u64, byte: u8)
         requires { limit ≤ capacity self.old.line }
         ensures room { limit ≤ capacity self.new.line }
-        ensures stands { (piece : List ℕ) → Stands limit self.old piece
-            → Stands limit self.new (piece ++ byte ∷ []) }
+        ensures stands { (piece : List ℕ) → IsLineSoFar limit self.old piece
+            → IsLineSoFar limit self.new (piece ++ byte ∷ []) }
     {
         if self.long {
             return;
@@ -36,7 +36,7 @@ impl Pending {
     pub fn clear(&mut self, limit: u64)
         requires { limit ≤ capacity self.old.line }
         ensures room { limit ≤ capacity self.new.line }
-        ensures stands { Stands limit self.new [] }
+        ensures stands { IsLineSoFar limit self.new [] }
     {
         self.line.clear();
         self.long = false;
@@ -44,7 +44,7 @@ impl Pending {
 
     /// Nothing of the line has come.
     pub fn is_empty(&self) -> bool
-        ensures { (limit : ℕ) (piece : List ℕ) → Stands limit self.now piece
+        ensures { (limit : ℕ) (piece : List ℕ) → IsLineSoFar limit self.now piece
             → result ≡ (length piece == 0) }
     {
         if self.long {

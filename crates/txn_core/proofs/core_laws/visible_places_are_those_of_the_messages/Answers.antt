@@ -1,6 +1,6 @@
 use Rattle.txn_model.proofs.Laws.Topics.{places_are}
 use Rattle.txn_core.proofs.Reading.{read_told, read_can}
-use Rattle.txn_core.proofs.laws.visible_places_are_those_of_the_messages.Goals as goal
+use Rattle.txn_core.proofs.core_laws.visible_places_are_those_of_the_messages.Goals as goal
 
 pub returns-clause-visible : goal.returns-clause-visible
 returns-clause-visible c = places_are

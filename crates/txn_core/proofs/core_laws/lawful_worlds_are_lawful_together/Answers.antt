@@ -1,6 +1,6 @@
 use Rattle.txn_model.proofs.Laws.Names.{few_names}
 use Rattle.txn_core.proofs.Worlds.{world_stands, world_lawful, kept_skeletons}
-use Rattle.txn_core.proofs.laws.lawful_worlds_are_lawful_together.Goals as goal
+use Rattle.txn_core.proofs.core_laws.lawful_worlds_are_lawful_together.Goals as goal
 
 pub returns-clause-lawful : goal.returns-clause-lawful
 returns-clause-lawful c = world_lawful
