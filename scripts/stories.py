@@ -52,7 +52,7 @@ class Telling:
     def __init__(self, counts):
         self.counts, self.found = counts, []
         self.disks, self.stopped, self.limits, self.next = [memory.Disk()], None, dict(grammar.LIMITS), {}
-        self.last = None
+        self.last, self.awaited = None, []
 
     def tell(self, story):
         """Tells a story to its end. Gives what it finds wrong, each with its line."""
@@ -61,6 +61,7 @@ class Telling:
                 getattr(self, f"tell_{step.kind}")(step)
             except (ValueError, KeyError) as fault:
                 raise story_text.Unreadable(step.number, str(fault)) from None
+        self.look_back()
         return self.found
 
     def wrong(self, number, what):
@@ -81,6 +82,18 @@ class Telling:
             disk.files[file] = memory.File(data)
 
     def tell_fault(self, step):
+        self.tell_trap(step)
+        word, call, number = step.rest.split()
+        self.awaited.append((step.number, story_text.file_of(word), call, story_text.number_of(number)))
+
+    def look_back(self):
+        """Each call that is to fail came on one of the disks; of how many reads there are no page tells."""
+        for number, file, call, nth in self.awaited:
+            if call != "read" and all(disk.counts[file, call] < nth for disk in self.disks):
+                self.wrong(number, "by the rules no such call comes")
+        self.awaited = []
+
+    def tell_trap(self, step):
         word, call, number = step.rest.split()
         if call not in ("size", "read", "write", "resize", "sync"):
             raise ValueError(f"no call: {call}")
@@ -144,6 +157,7 @@ class Telling:
     # -- Crashes.
 
     def tell_crash(self, step):
+        self.look_back()
         self.stopped = self.disks
         self.tell_or(step)
 

@@ -217,7 +217,7 @@ class Step:
         return True
 
 
-KINDS = ("limits", "put", "fault", "clock", "source", "sink", "run", "see", "crash", "or", "each")
+KINDS = ("limits", "put", "fault", "trap", "clock", "source", "sink", "run", "see", "crash", "or", "each")
 
 
 def steps_of(story):

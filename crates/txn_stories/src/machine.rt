@@ -11,6 +11,8 @@ pub struct Machine {
     alloc: Global,
     pub disks: Vec<MemDisk>,
     faults: Vec<FaultAt>,
+    /// How many of them have to come.
+    awaited: u64,
     /// No run has been on the disk since the story began, or since the crash.
     is_fresh: bool,
     crashed: Vec<MemDisk>,
@@ -24,6 +26,7 @@ impl Machine {
             alloc,
             disks,
             faults: Vec::new(alloc),
+            awaited: 0,
             is_fresh: true,
             crashed: Vec::new(alloc),
         })
@@ -37,8 +40,14 @@ impl Machine {
         Ok(())
     }
 
-    /// One more call is to fail.
+    /// One more call is to fail, and has to come.
     pub fn fail(&mut self, fault: FaultAt) -> Result<(), Wrong> {
+        self.awaited = self.awaited.saturating_add(1);
+        self.trap(fault)
+    }
+
+    /// One more call would fail if it came.
+    pub fn trap(&mut self, fault: FaultAt) -> Result<(), Wrong> {
         if !self.is_fresh {
             return Err(Wrong::Line("a fault stands before the first run, or behind a crash"));
         }
@@ -62,8 +71,26 @@ impl Machine {
         self.is_fresh = false;
     }
 
+    /// On one of the disks at least, as many calls failed as were awaited.
+    pub fn are_met(&self) -> Result<(), Wrong> {
+        let awaited = self.awaited;
+        let mut most = 0;
+        for disk in &self.disks {
+            most = disk.failed_calls().max(most);
+        }
+        if awaited <= most {
+            return Ok(());
+        }
+        Err(Wrong::Came {
+            what: String::from_str(self.alloc, "the calls that failed")?,
+            want: format!(in self.alloc; "{awaited}")?,
+            came: format!(in self.alloc; "{most}")?,
+        })
+    }
+
     /// The next run begins on what a crash leaves, by each of these choices.
     pub fn crash(&mut self, choices: &[Choice]) -> Result<(), Wrong> {
+        self.are_met()?;
         let left = left_by(self.alloc, &self.disks, choices)?;
         self.crashed = mem::replace(&mut self.disks, left);
         self.forget();
@@ -82,6 +109,7 @@ impl Machine {
 
     fn forget(&mut self) {
         self.faults.clear();
+        self.awaited = 0;
         self.is_fresh = true;
     }
 }

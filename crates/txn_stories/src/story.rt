@@ -93,7 +93,7 @@ impl Story {
             }
         }
         if told.end.is_ok() {
-            told.end = told.teller.finish();
+            told.end = told.teller.end();
         }
         Ok(told)
     }

@@ -151,7 +151,8 @@ impl Teller {
             "limits" => self.lower_limits(rest),
             "put" => self.put(rest),
             "see" => self.see(rest),
-            "fault" => self.fail(rest),
+            "fault" => self.world.fail(fault_of(rest)?),
+            "trap" => self.world.trap(fault_of(rest)?),
             "clock" => {
                 self.script.moments = numbers_of(self.alloc, rest)?;
                 Ok(())
@@ -196,16 +197,6 @@ impl Teller {
             same_bytes(self.alloc, name, want, disk.file_bytes(file))?;
         }
         Ok(())
-    }
-
-    fn fail(&mut self, rest: &str) -> Result<(), Wrong> {
-        let (file, call) = first_word(rest);
-        let (op, nth) = first_word(call);
-        self.world.fail(FaultAt {
-            file: file_of(file)?,
-            op: op_of(op)?,
-            nth: number(nth)?,
-        })
     }
 
     fn set_source(&mut self, rest: &str) -> Result<(), Wrong> {
@@ -262,7 +253,7 @@ impl Teller {
     }
 
     /// Does what is asked for, and compares.
-    pub fn finish(&mut self) -> Result<(), Wrong> {
+    fn finish(&mut self) -> Result<(), Wrong> {
         match self.asked {
             Asked::EachFault => self.finish_look()?,
             Asked::Run if self.also.is_empty() => self.finish_run()?,
@@ -275,6 +266,12 @@ impl Teller {
             page.flush()?;
         }
         Ok(())
+    }
+
+    /// Does what is asked for at the end of a story.
+    pub fn end(&mut self) -> Result<(), Wrong> {
+        self.finish()?;
+        self.world.are_met()
     }
 
     fn finish_run(&mut self) -> Result<(), Wrong> {
@@ -372,6 +369,17 @@ fn put_ended(alloc: Global, text: &str, end: &str, out: &mut Vec<u8>) -> Result<
 }
 
 /// The numbers of a line.
+/// A call on a file, by its number among the calls of its kind.
+fn fault_of(rest: &str) -> Result<FaultAt, Wrong> {
+    let (file, call) = first_word(rest);
+    let (op, nth) = first_word(call);
+    Ok(FaultAt {
+        file: file_of(file)?,
+        op: op_of(op)?,
+        nth: number(nth)?,
+    })
+}
+
 fn numbers_of(alloc: Global, rest: &str) -> Result<Vec<u64>, Wrong> {
     let mut numbers = Vec::new(alloc);
     for word in rest.split_whitespace() {
