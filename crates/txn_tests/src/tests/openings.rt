@@ -7,8 +7,8 @@ use super::files::{Short, log_file, topic_file};
 use std::alloc::{AllocError, Global};
 use std::marker::Brand;
 use std::sync::ledger::{self, Blank};
-use txn_base::{FileId, Limits, Request, Steps, Text, TxnId};
-use txn_engine::Engine;
+use txn_base::{FileId, Limits, Reply, Request, Steps, Text, TxnId};
+use txn_engine::{Engine, EngineError};
 use txn_memdisk::MemDisk;
 
 /// The names of two topics.
@@ -40,12 +40,36 @@ fn opened<L: ledger::Ledger>(
         txn: TxnId { most: 0, least: 0 },
     };
     match Engine::open_disk(alloc, names, &Limits::standard(), disk, &mut steps) {
-        Ok(mut engine) => {
-            let told = engine.answer(disk, 0, &first, &mut steps);
-            format!(in alloc; "{told:?}")
-        }
-        Err(error) => format!(in alloc; "{error:?}"),
+        Ok(mut engine) => reply_shown(alloc, &engine.answer(disk, 0, &first, &mut steps)),
+        Err(error) => error_shown(alloc, &error),
     }
+}
+
+fn reply_shown(alloc: Global, reply: &Reply) -> Result<String, AllocError> {
+    format!(in alloc; "{reply:?}")
+}
+
+fn error_shown(alloc: Global, error: &EngineError) -> Result<String, AllocError> {
+    format!(in alloc; "{error:?}")
+}
+
+/// Puts the file of the coordinator, or of a topic.
+fn put(alloc: Global, disk: &mut MemDisk, part: u32, entries: &[Short]) -> Result<(), AllocError> {
+    let bytes = if part == 0 {
+        log_file(alloc, entries)?
+    } else {
+        topic_file(alloc, entries)?
+    };
+    disk.put_file(FileId { part, row: 2 }, bytes.as_slice())
+}
+
+/// What opening a disk with these files tells.
+fn told(alloc: Global, log: &[Short], a: &[Short], b: &[Short]) -> Result<String, AllocError> {
+    let mut disk = MemDisk::new(alloc, &[])?;
+    put(alloc, &mut disk, 0, log)?;
+    put(alloc, &mut disk, 1, a)?;
+    put(alloc, &mut disk, 2, b)?;
+    opened::<Brand>(alloc, Blank::new(1), &mut disk)
 }
 
 // A log, the ledgers of both topics, and what opening them tells. In a log 1 is a new transaction, 2 adds a part to one; in
@@ -88,11 +112,7 @@ const DISKS: [(&[Short], &[Short], &[Short], &str); 6] = [
 fn first_damage_in_the_order_of_the_parts_is_told(rt: HostRuntime) -> Result<(), AllocError> {
     let alloc = rt.alloc();
     for (log, a, b, want) in &DISKS {
-        let mut disk = MemDisk::new(alloc, &[])?;
-        disk.put_file(FileId { part: 0, row: 2 }, log_file(alloc, log)?.as_slice())?;
-        disk.put_file(FileId { part: 1, row: 2 }, topic_file(alloc, a)?.as_slice())?;
-        disk.put_file(FileId { part: 2, row: 2 }, topic_file(alloc, b)?.as_slice())?;
-        let told = opened::<Brand>(alloc, Blank::new(1), &mut disk)?;
+        let told = told(alloc, log, a, b)?;
         assert_eq!(rt; told.as_str(), *want);
     }
     Ok(())
