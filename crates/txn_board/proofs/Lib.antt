@@ -1,0 +1,10 @@
+pub mod Hits
+pub mod Marks
+pub mod Steps
+pub mod Settling
+pub mod Seating
+pub mod Filling
+pub mod Reading
+pub mod Startings
+pub mod Closings
+pub mod Meanings

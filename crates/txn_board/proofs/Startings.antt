@@ -1,0 +1,177 @@
+-- A part starts entries, by the value of the word that is loaded.
+use Rattle.std.proofs.Common.{◌≡◌, ◌≢◌, inl, inr, ℕ, zero, suc, ◌==◌, ◌<◌, arith, Bool, true, false, ◌&&◌, if◌then◌else◌, List, [], ◌∷◌, ◌++◌, length, set, replicate, Option, Some, None, refl, sym, ap, ◌∙◌, subst, append_assoc}
+use Rattle.std.specs.Prelude.{slice_index, nat_lt}
+use Rattle.std.specs.List.{list_all, list_any}
+use Rattle.std.specs.Option.{option_or}
+use Rattle.std.proofs.lemmas.Bool.{eq-eqb, lt-ltb, ltb-true}
+use mathlib.Core.Option.{some}
+use lib.ListN.{get_elem?}
+use Rattle.atomic_table.specs.Table as table
+use Rattle.txn_base.specs.declared.txn.TxnId.{TxnId}
+use Rattle.txn_base.specs.declared.txn.Decision.{Decision}
+use Rattle.txn_base.specs.declared.txn.Decision.TheVariants.{Commit, Abort}
+use Rattle.txn_base.specs.declared.core_entry.CoreEntry.{CoreEntry}
+use Rattle.txn_base.specs.declared.core_entry.CoreEntry.TheVariants as core
+use Rattle.txn_model.specs.Words.{first_of}
+use Rattle.txn_model.specs.Skeletons.{same_txn}
+use Rattle.txn_model.specs.Coord.{decision_of, decision_skeleton, says_decision, in_parts, CoordLawful}
+use Rattle.txn_model.specs.Deadlines.{txn}
+use Rattle.txn_model.proofs.Laws.Tests.{no_true, and_l, and_r, and_both, or_cases}
+use Rattle.txn_model.proofs.Laws.Lists.{first_of-append}
+use Rattle.txn_model.proofs.Laws.Logs.{txn_equal, undecided_before}
+use Rattle.txn_core.specs.declared.step.CoreRow.{CoreRow}
+use Rattle.txn_core.specs.declared.step.CoreStep.TheVariants as act
+use Rattle.txn_core.specs.Together.{is_alone}
+use Rattle.txn_core.specs.Steps.{settled_of, flight_of, with_row, start_row, is_decision, may_cross, is_batch, can}
+use Rattle.txn_core.proofs.Laws.{alone_front, alone_log, decision_test}
+use Rattle.txn_board.specs.declared.view.SeatRow.{SeatRow}
+use Rattle.txn_board.specs.declared.view.View.{View}
+use Rattle.txn_board.specs.declared.words.Word.{Word}
+use Rattle.txn_board.specs.declared.words.Word.TheVariants.{Registered, Decided}
+use Rattle.txn_board.specs.declared.words.OwnStart.{OwnStart}
+use Rattle.txn_board.specs.declared.words.OwnStart.TheVariants as own
+use Rattle.txn_board.specs.Words.{window, IsIn, word_at, as_bit, has_bit, decides, tells}
+use Rattle.txn_board.specs.Rows.{parts_in, low_in, with_row_by, start_view, loaded}
+use Rattle.txn_board.specs.Rule.{Holds, AllowsTo}
+use Rattle.txn_board.specs.Seen.{decision_by}
+use Rattle.txn_board.specs.Calls.{MayStart, MayStartIn, own_entries, start_where, bit_found, inside_where, marker_where, start_place}
+use Rattle.txn_board.proofs.Marks.{in_by}
+use Rattle.txn_board.proofs.Steps.{kept, looks, mine, row_stays}
+
+-- what the row shows and what other lists give: the core allows the start
+can_start : (lists : List (List CoreEntry)) (s : table.State ℕ View) (h : Holds lists s) (id : ℕ) (v : View) (seat : get_elem? s.views id ≡ some v) (es : List CoreEntry) (m : MayStart (parts_in lists) es v)
+    → list_all (may_cross (settled_of h.state) m.row.part) es ≡ true → can (parts_in lists) h.state (act.Start m.row.part es) ≡ true
+can_start lists s h id v seat es m cross =
+    let p = m.row.part in
+    let its = mine lists s h id v seat m.row m.one in
+    let a1 = nat_lt p (length h.state.rows) in
+    let a2 = a1 && length (flight_of h.state p) == 0 in
+    let a3 = a2 && is_batch p es in
+    let a4 = a3 && is_alone (parts_in lists) p (settled_of h.state p ++ es) in
+    let c1 : a1 ≡ true = lt-ltb p (length h.state.rows) its.1 in
+    let c2 : a2 ≡ true = and_both a1 (length (flight_of h.state p) == 0) c1 (eq-eqb (length (flight_of h.state p)) 0 (ap length (ap (λ (x : CoreRow). x.flight) its.2 ∙ m.resting))) in
+    let c3 : a3 ≡ true = and_both a2 (is_batch p es) c2 m.batch in
+    let c4 : a4 ≡ true = and_both a3 (is_alone (parts_in lists) p (settled_of h.state p ++ es)) c3 (ap (λ l. is_alone (parts_in lists) p (l ++ es)) (ap (λ (x : CoreRow). x.settled) its.2) ∙ m.alone) in
+    and_both a4 (list_all (may_cross (settled_of h.state) p) es) c4 cross
+
+-- a start of these entries, or of none
+pub start_at : (lists : List (List CoreEntry)) (s : table.State ℕ View) (h : Holds lists s) (id : ℕ) (v : View) (seat : get_elem? s.views id ≡ some v) (place : ℕ) (es : List CoreEntry)
+    → ((e : CoreEntry) (more : List CoreEntry) → es ≡ e ∷ more → (m : MayStart (parts_in lists) es v) × (list_all (may_cross (settled_of h.state) m.row.part) es ≡ true))
+    → Holds lists (record { words = set s.words place (slice_index s.words place); homes = s.homes; views = set s.views id (loaded place (slice_index s.words place) (start_where es v)) })
+start_at lists s h id v seat place [] may = looks lists s h id v seat place
+start_at lists s h id v seat place (e ∷ more) may =
+    let k = may e more refl in
+    let m = k.0 in
+    let its = mine lists s h id v seat m.row m.one in
+    row_stays lists s h id v seat m.row m.one (act.Start m.row.part (e ∷ more)) (can_start lists s h id v seat (e ∷ more) m k.1) (start_row (e ∷ more) m.row.row)
+    (ap (λ x. with_row h.state m.row.part (start_row (e ∷ more) x)) its.2) refl (loaded place (slice_index s.words place) (start_view (e ∷ more) v)) (ap (with_row_by (start_row (e ∷ more))) m.one) place refl
+
+-- ---- Own.
+
+plain_cross : (lists : ℕ → List CoreEntry) (p count : ℕ) → list_all (may_cross lists p) (replicate count core.Plain) ≡ true
+plain_cross lists p zero = refl
+plain_cross lists p (suc count) = plain_cross lists p count
+
+own_cross : (lists : ℕ → List CoreEntry) (p : ℕ) (o : OwnStart) → list_all (may_cross lists p) (own_entries o) ≡ true
+own_cross lists p (own.Plain count) = plain_cross lists p count
+own_cross lists p (own.New x) = refl
+own_cross lists p (own.AddPart x q) = refl
+own_cross lists p (own.Decide x Commit) = refl
+own_cross lists p (own.Decide x Abort) = refl
+
+pub starts_own : (lists : List (List CoreEntry)) (id : ℕ) (v : View) (place : ℕ) (o : OwnStart) → MayStart (parts_in lists) (own_entries o) v → AllowsTo (Holds lists) id v place (λ n. n) (λ n. loaded place n (start_where (own_entries o) v))
+starts_own lists id v place o m = λ s h seat. start_at lists s h id v seat place (own_entries o) (λ e more is. (m, own_cross (settled_of h.state) m.row.part o))
+
+-- ---- Messages and holds.
+
+pub bit_true : (b : Bool) → (as_bit b == 1) ≡ true → b ≡ true
+bit_true true h = refl
+bit_true false h = absurd (no_true h)
+
+inside_cross : (lists : ℕ → List CoreEntry) (p x count : ℕ) → in_parts (lists 0) (txn x) p ≡ true → list_all (may_cross lists p) (replicate count (core.Inside (txn x))) ≡ true
+inside_cross lists p x zero h = refl
+inside_cross lists p x (suc count) h = and_both (in_parts (lists 0) (txn x) p) (list_all (may_cross lists p) (replicate count (core.Inside (txn x)))) h (inside_cross lists p x count h)
+
+registers : (lists : ℕ → List CoreEntry) (x p : ℕ) → p ≢ 0 → tells lists (txn x) Registered p ≡ true → in_parts (lists 0) (txn x) p ≡ true
+registers lists x zero away h = absurd (away refl)
+registers lists x (suc p) away h = h
+
+pub starts_in : (lists : List (List CoreEntry)) (id : ℕ) (v : View) (place x count : ℕ) (number : Option ℕ) → IsIn (low_in lists) window x → place ≡ word_at (low_in lists) x Registered
+    → ((r : SeatRow) → v.rows ≡ r ∷ [] → number ≡ Some r.part) → MayStartIn (parts_in lists) x count v
+    → AllowsTo (Holds lists) id v place (λ n. n) (λ n. loaded place n (start_where (inside_where (bit_found number n) x count) v))
+starts_in lists id v place x count number inside at its m =
+    λ s h seat. start_at lists s h id v seat place (inside_where (bit_found number (slice_index s.words place)) x count) (λ e more is. go s h (bit_found number (slice_index s.words place)) refl e more is)
+  where
+    go : (s : table.State ℕ View) (h : Holds lists s) (b : Bool) → bit_found number (slice_index s.words place) ≡ b → (e : CoreEntry) (more : List CoreEntry) → inside_where b x count ≡ e ∷ more
+        → (k : MayStart (parts_in lists) (inside_where b x count) v) × (list_all (may_cross (settled_of h.state) k.row.part) (inside_where b x count) ≡ true)
+    go s h false f e more is = absurd (cc is)
+    go s h true f e more is =
+        let p = m.may.row.part in
+        let t : (nat_lt p 64 && has_bit (slice_index s.words place) p) ≡ true = ap (λ o. bit_found o (slice_index s.words place)) (sym (its m.may.row m.may.one)) ∙ f in
+        let small : p < 64 = ltb-true p 64 (and_l (nat_lt p 64) (has_bit (slice_index s.words place) p) t) in
+        let bit : has_bit (slice_index s.words (word_at (low_in lists) x Registered)) p ≡ true = ap (λ i. has_bit (slice_index s.words i) p) (sym at) ∙ and_r (nat_lt p 64) (has_bit (slice_index s.words place) p) t in
+        let told : tells (settled_of h.state) (txn x) Registered p ≡ true = bit_true (tells (settled_of h.state) (txn x) Registered p) (ap (λ k. k == 1) (sym (h.words.bits x Registered p inside small)) ∙ bit) in
+        (m.may, inside_cross (settled_of h.state) p x count (registers (settled_of h.state) x p m.part told))
+
+-- ---- Markers.
+
+some_is : (b : Bool) (d w : Decision) → is_decision (if b then Some w else None) d ≡ true → (b ≡ true) × (is_decision (Some w) d ≡ true)
+some_is true d w h = (refl, h)
+some_is false d w h = absurd (no_true h)
+
+-- an entry that decides x by d is the decision's
+decider : (x : TxnId) (d : Decision) (e : CoreEntry) → decides x d e ≡ true → e ≡ decision_skeleton x d
+decider x Commit (core.Committing y) h = ap core.Committing (sym (txn_equal x y (some_is (same_txn x y) Commit Commit h).0))
+decider x Abort (core.Committing y) h = absurd (no_true (some_is (same_txn x y) Abort Commit h).1)
+decider x Commit (core.Aborting y) h = absurd (no_true (some_is (same_txn x y) Commit Abort h).1)
+decider x Abort (core.Aborting y) h = ap core.Aborting (sym (txn_equal x y (some_is (same_txn x y) Abort Abort h).0))
+decider x d core.Plain h = absurd (no_true h)
+decider x d (core.Inside y) h = absurd (no_true h)
+decider x d (core.Marker y w) h = absurd (no_true h)
+decider x d (core.New y) h = absurd (no_true h)
+decider x d (core.AddPart y p) h = absurd (no_true h)
+decider x d (core.Committed y) h = absurd (no_true h)
+decider x d (core.Aborted y) h = absurd (no_true h)
+
+first_said : (x : TxnId) (d : Decision) (rest : List CoreEntry) → first_of (says_decision x) (decision_skeleton x d ∷ rest) ≡ Some d
+first_said x Commit rest = ap (λ b. option_or (if b then Some Commit else None) (first_of (says_decision x) rest)) (and_both (x.most == x.most) (x.least == x.least) (eq-eqb x.most x.most refl) (eq-eqb x.least x.least refl))
+first_said x Abort rest = ap (λ b. option_or (if b then Some Abort else None) (first_of (says_decision x) rest)) (and_both (x.most == x.most) (x.least == x.least) (eq-eqb x.most x.most refl) (eq-eqb x.least x.least refl))
+
+-- in a lawful log, one decision that stands there is the one
+decided_along : (n : ℕ) (x : TxnId) (d : Decision) (front rest : List CoreEntry) → CoordLawful n (front ++ rest) → list_any (decides x d) rest ≡ true → decision_of (front ++ rest) x ≡ Some d
+decided_along n x d front [] law h = absurd (no_true h)
+decided_along n x d front (e ∷ rest) law h =
+    elim (or_cases (decides x d e) (list_any (decides x d) rest) h) [
+      | inl now ↦
+          let is : e ≡ decision_skeleton x d = decider x d e now in
+          let none : decision_of front x ≡ None = undecided_before n front x d rest (subst (λ k. CoordLawful n (front ++ k ∷ rest)) is law) in
+          first_of-append (says_decision x) front (e ∷ rest) ∙ (ap (λ o. option_or o (first_of (says_decision x) (e ∷ rest))) none ∙ (ap (λ k. first_of (says_decision x) (k ∷ rest)) is ∙ first_said x d rest))
+      | inr later ↦ subst (λ l. decision_of l x ≡ Some d) (append_assoc front (e ∷ []) rest) (decided_along n x d (front ++ e ∷ []) rest (subst (CoordLawful n) (sym (append_assoc front (e ∷ []) rest)) law) later)
+    ]
+
+pub decided : (n : ℕ) (c : List CoreEntry) (x : TxnId) (d : Decision) → CoordLawful n c → list_any (decides x d) c ≡ true → decision_of c x ≡ Some d
+decided n c x d law h = decided_along n x d [] c law h
+
+pub starts_marker : (lists : List (List CoreEntry)) (id : ℕ) (v : View) (place x : ℕ) → IsIn (low_in lists) window x → place ≡ word_at (low_in lists) x Decided
+    → ((d : Decision) → MayStart (parts_in lists) (marker_where x (Some d)) v)
+    → AllowsTo (Holds lists) id v place (λ n. n) (λ n. loaded place n (start_where (marker_where x (decision_by (has_bit n 0) (has_bit n 1))) v))
+starts_marker lists id v place x inside at m =
+    λ s h seat. start_at lists s h id v seat place (marker_where x (decision_by (has_bit (slice_index s.words place) 0) (has_bit (slice_index s.words place) 1)))
+    (λ e more is. go s h (has_bit (slice_index s.words place) 0) (has_bit (slice_index s.words place) 1) refl refl e more is)
+  where
+    cross : (s : table.State ℕ View) (h : Holds lists s) (p i : ℕ) (d : Decision) → i < 64 → tells (settled_of h.state) (txn x) Decided i ≡ list_any (decides (txn x) d) (settled_of h.state 0) → has_bit (slice_index s.words place) i ≡ true
+        → list_all (may_cross (settled_of h.state) p) (marker_where x (Some d)) ≡ true
+    cross s h p i d small same bit =
+        let b : has_bit (slice_index s.words (word_at (low_in lists) x Decided)) i ≡ true = ap (λ j. has_bit (slice_index s.words j) i) (sym at) ∙ bit in
+        let told : list_any (decides (txn x) d) (settled_of h.state 0) ≡ true = sym same ∙ bit_true (tells (settled_of h.state) (txn x) Decided i) (ap (λ k. k == 1) (sym (h.words.bits x Decided i inside small)) ∙ b) in
+        let law = alone_log (parts_in lists) (settled_of h.state 0) (alone_front (parts_in lists) 0 (settled_of h.state 0) (flight_of h.state 0) ((kept lists s h).stands.alone 0)) in
+        and_both (is_decision (decision_of (settled_of h.state 0) (txn x)) d) true (decision_test (decision_of (settled_of h.state 0) (txn x)) d (decided (parts_in lists) (settled_of h.state 0) (txn x) d law told)) refl
+
+    go : (s : table.State ℕ View) (h : Holds lists s) (a b : Bool) → has_bit (slice_index s.words place) 0 ≡ a → has_bit (slice_index s.words place) 1 ≡ b → (e : CoreEntry) (more : List CoreEntry) → marker_where x (decision_by a b) ≡ e ∷ more
+        → (k : MayStart (parts_in lists) (marker_where x (decision_by a b)) v) × (list_all (may_cross (settled_of h.state) k.row.part) (marker_where x (decision_by a b)) ≡ true)
+    go s h true b f g e more is = (m Commit, cross s h (m Commit).row.part 0 Commit (omega arith) refl f)
+    go s h false true f g e more is = (m Abort, cross s h (m Abort).row.part 1 Abort (omega arith) refl g)
+    go s h false false f g e more is = absurd (cc is)
+
+pub place_is : (lists : List (List CoreEntry)) (x : ℕ) (w : Word) → IsIn (low_in lists) window x → start_place lists x w ≡ word_at (low_in lists) x w
+place_is lists x w inside = ap (λ b. if b then word_at (low_in lists) x w else 0) (in_by (low_in lists) window x inside)

@@ -1,0 +1,27 @@
+use Rattle.std.proofs.Common.{rules, ◌≡◌, ◌<◌, ◌≤◌, ◌&&◌, not, true, false, sym, ◌∙◌, arith}
+use Rattle.txn_board.specs.Words.{has_bit}
+use Rattle.txn_board.proofs.Closings.{missing_here, missing_goes, missing_ends}
+use Rattle.txn_board.proofs.starts.missing_part.Goals as goal
+
+pub returns-then-not-has_bit : goal.returns-then-not-has_bit
+returns-then-not-has_bit c =
+    let p = c.loop-part.part in
+    let lt : p < 64 = search rules in
+    let test : (has_bit c.args.reg p && not (has_bit c.args.done p)) ≡ true = search rules in
+    sym (missing_here c.args.reg c.args.done p lt test) ∙ c.loop-part.invariant.2
+
+pub loop-part-preserved : goal.loop-part-preserved
+loop-part-preserved c =
+    let p = c.loop-part.part in
+    let lt : p < 64 = search rules in
+    let test : (has_bit c.args.reg p && not (has_bit c.args.done p)) ≡ false = search rules in (
+      omega arith,
+      omega (arith, lt),
+      sym (missing_goes c.args.reg c.args.done p lt test) ∙ c.loop-part.invariant.2,
+    )
+
+pub returns : goal.returns
+returns c =
+    let p = c.loop-part.part in
+    let le : 64 ≤ p = search rules in
+    sym (missing_ends c.args.reg c.args.done p le) ∙ c.loop-part.invariant.2

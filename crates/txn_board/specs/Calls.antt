@@ -1,0 +1,167 @@
+-- What the calls of the board ask of the row of a seat.
+use Rattle.std.specs.Prelude.{◌≡◌, ◌≢◌, ◌<◌, ◌&&◌, not, ◌+◌, ℕ, zero, suc, ◌==◌, nat_lt, Bool, true, false, if◌then◌else◌, List, [], ◌∷◌, ◌++◌, replicate, Option, Some, None}
+use Rattle.txn_base.specs.declared.txn.Decision.{Decision}
+use Rattle.txn_base.specs.declared.core_entry.CoreEntry.{CoreEntry}
+use Rattle.txn_base.specs.declared.core_entry.CoreEntry.TheVariants as core
+use Rattle.txn_model.specs.Coord.{decision_skeleton, closing_skeleton, decision_of}
+use Rattle.txn_model.specs.Deadlines.{txn}
+use Rattle.txn_core.specs.declared.step.CoreRow.{CoreRow}
+use Rattle.txn_core.specs.Together.{is_alone}
+use Rattle.txn_core.specs.Steps.{is_batch}
+use Rattle.txn_board.specs.declared.view.SeatRow.{SeatRow}
+use Rattle.txn_board.specs.declared.view.View.{View}
+use Rattle.txn_board.specs.declared.words.Mark.{Mark}
+use Rattle.txn_board.specs.declared.words.OwnStart.{OwnStart}
+use Rattle.txn_board.specs.declared.words.OwnStart.TheVariants as own
+use Rattle.txn_board.specs.declared.words.Word.TheVariants.{Registered, Done}
+use Rattle.txn_board.specs.declared.words.Start.{Start}
+use Rattle.txn_board.specs.declared.words.Start.TheVariants as begin
+use Rattle.txn_board.specs.declared.words.Word.{Word}
+use Rattle.txn_board.specs.Seen.{decision_by}
+use Rattle.std.specs.List.{list_any}
+use Rattle.txn_board.specs.Words.{window, is_in, word_at, mark_of, has_bit, sets}
+use Rattle.txn_board.specs.Rows.{low_in, start_view}
+
+-- The seat has the row of this part alone, and this entry is the first in flight.
+pub record IsSettling (part : ℕ) (e : CoreEntry) (v : View) : Type 0 where
+  pub row : CoreRow
+  pub rest : List CoreEntry
+  pub one : v.rows ≡ record { part = part; row = row } ∷ []
+  pub first : row.flight ≡ e ∷ rest
+
+-- The seat has one row, and what it has in flight isn't sure to stay.
+pub record MayDrop (v : View) : Type 0 where
+  pub row : SeatRow
+  pub entry : CoreEntry
+  pub rest : List CoreEntry
+  pub one : v.rows ≡ row ∷ []
+  pub first : row.row.flight ≡ entry ∷ rest
+  pub unsure : row.row.sure ≡ false
+
+-- The first entry in flight of the seat's part sets this bit, or none.
+pub record IsSetting (mark : Option Mark) (v : View) : Type 0 where
+  pub part : ℕ
+  pub entry : CoreEntry
+  pub settling : IsSettling part entry v
+  pub sets : mark_of part entry ≡ mark
+
+-- A message, a hold: an entry that sets no bit.
+abbrev pub is_quiet : CoreEntry → Bool
+is_quiet core.Plain = true
+is_quiet (core.Inside x) = true
+is_quiet _ = false
+
+-- The first entry in flight is a message or a hold.
+pub record IsSettlingOwn (v : View) : Type 0 where
+  pub part : ℕ
+  pub entry : CoreEntry
+  pub settling : IsSettling part entry v
+  pub quiet : is_quiet entry ≡ true
+
+-- What registers: New for the coordinator, AddPart for another part.
+abbrev pub reg_entry : ℕ → ℕ → CoreEntry
+reg_entry x part = if part == 0 then core.New (txn x) else core.AddPart (txn x) part
+
+-- What ends x by d: a closing in the coordinator's list, a marker in another.
+abbrev pub end_entry : ℕ → ℕ → Decision → CoreEntry
+end_entry part x d = if part == 0 then closing_skeleton (txn x) d else core.Marker (txn x) d
+
+-- The first entry in flight closes x, or is a marker of it.
+pub record IsEnding (x : ℕ) (v : View) : Type 0 where
+  pub part : ℕ
+  pub decision : Decision
+  pub settling : IsSettling part (end_entry part x decision) v
+
+-- The bit that a part's marker of x sets, or the coordinator's closing.
+abbrev pub ending_mark : Option ℕ → ℕ → Option Mark
+ending_mark None x = None
+ending_mark (Some part) x = if nat_lt part 64 then Some (record { txn = x; word = Done; bit = part }) else None
+
+-- ---- What the starts ask.
+
+-- Where there are n parts beside the coordinator: the seat has one row, and by that row its part may start these entries.
+-- It has nothing in flight, they are a batch, and behind what is settled they make a list that is lawful by itself.
+pub record MayStart (n : ℕ) (es : List CoreEntry) (v : View) : Type 0 where
+  pub row : SeatRow
+  pub one : v.rows ≡ row ∷ []
+  pub resting : row.row.flight ≡ []
+  pub batch : is_batch row.part es ≡ true
+  pub alone : is_alone n row.part (row.row.settled ++ es) ≡ true
+
+-- What a part starts of its own.
+abbrev pub own_entries : OwnStart → List CoreEntry
+own_entries (own.Plain count) = replicate count core.Plain
+own_entries (own.New x) = core.New (txn x) ∷ []
+own_entries (own.AddPart x part) = core.AddPart (txn x) part ∷ []
+own_entries (own.Decide x decision) = decision_skeleton (txn x) decision ∷ []
+
+-- A view whose part starts these entries, where there are any.
+abbrev pub start_where : List CoreEntry → View → View
+start_where [] v = v
+start_where (e ∷ es) v = start_view (e ∷ es) v
+
+-- The word has the bit of the seat's part.
+abbrev pub bit_found : Option ℕ → ℕ → Bool
+bit_found None n = false
+bit_found (Some part) n = nat_lt part 64 && has_bit n part
+
+abbrev pub inside_where : Bool → ℕ → ℕ → List CoreEntry
+inside_where found x count = if found then replicate count (core.Inside (txn x)) else []
+
+abbrev pub marker_where : ℕ → Option Decision → List CoreEntry
+marker_where x None = []
+marker_where x (Some d) = core.Marker (txn x) d ∷ []
+
+-- ---- The start of a closing.
+
+-- From the part p on, of so many, the first whose bit is in the one word and not in the other.
+abbrev pub missing_from : ℕ → ℕ → ℕ → ℕ → Option ℕ
+missing_from reg done zero p = None
+missing_from reg done (suc left) p = if has_bit reg p && not (has_bit done p) then Some p else missing_from reg done left (p + 1)
+
+-- The least registered part that isn't done.
+abbrev pub first_missing : ℕ → ℕ → Option ℕ
+first_missing reg done = missing_from reg done 63 1
+
+-- What closes x by a decision; by the one row of a seat, as that has it.
+abbrev pub closing_by : Option Decision → ℕ → List CoreEntry
+closing_by None x = []
+closing_by (Some d) x = closing_skeleton (txn x) d ∷ []
+
+abbrev pub closing_in : List SeatRow → ℕ → List CoreEntry
+closing_in [] x = []
+closing_in (r ∷ []) x = closing_by (decision_of r.row.settled (txn x)) x
+closing_in (r ∷ q ∷ rs) x = []
+
+-- What starts where no part is missing.
+abbrev pub closing_where : Option ℕ → List SeatRow → ℕ → List CoreEntry
+closing_where None rows x = closing_in rows x
+closing_where (Some p) rows x = []
+
+-- The seat has the coordinator's row, which has the decision of x, and may start its closing as far as that row shows.
+pub record MayClose (n x : ℕ) (v : View) : Type 0 where
+  pub decision : Decision
+  pub may : MayStart n (closing_skeleton (txn x) decision ∷ []) v
+  pub first : may.row.part ≡ 0
+  pub decided : decision_of may.row.row.settled (txn x) ≡ Some decision
+
+-- A word of registered parts is that of the coordinator's row.
+abbrev pub IsOfRow : ℕ → ℕ → View → Type 0
+IsOfRow reg x v = (r : SeatRow) → v.rows ≡ r ∷ [] → r.part ≡ 0 → (p : ℕ) → p < 64 → has_bit reg p ≡ list_any (sets Registered p (txn x)) r.row.settled
+
+-- What starts by the value of the word that was loaded: messages or a hold where the part's bit is set; a marker where there
+-- is a decision; a closing where each registered part is done.
+abbrev pub starts_of : Start → View → ℕ → List CoreEntry
+starts_of (begin.Own own) v n = own_entries own
+starts_of (begin.Inside x count part) v n = inside_where (bit_found part n) x count
+starts_of (begin.Marker x) v n = marker_where x (decision_by (has_bit n 0) (has_bit n 1))
+starts_of (begin.Close x reg) v n = closing_where (first_missing reg n) v.rows x
+
+-- The place of the word of x that a start loads: word 0 where x isn't in the window.
+abbrev pub start_place : List (List CoreEntry) → ℕ → Word → ℕ
+start_place lists x w = if is_in (low_in lists) window x then word_at (low_in lists) x w else 0
+
+-- For messages or a hold: the part is another than the coordinator's.
+pub record MayStartIn (n x count : ℕ) (v : View) : Type 0 where
+  pub may : MayStart n (replicate count (core.Inside (txn x))) v
+  pub part : may.row.part ≢ 0

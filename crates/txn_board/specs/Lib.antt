@@ -1,0 +1,5 @@
+pub mod Words
+pub mod Rows
+pub mod Rule
+pub mod Calls
+pub mod Seen

@@ -1,0 +1,68 @@
+-- What a reader's answer is, by the loads that its call made.
+use Rattle.std.specs.Prelude.{◌≡◌, ℕ, ◌==◌, nat_lt, Bool, true, false, if◌then◌else◌, List, [], ◌∷◌, map, Option, Some, None}
+use Rattle.txn_base.specs.declared.core_entry.CoreEntry.{CoreEntry}
+use Rattle.txn_base.specs.declared.txn.Decision.{Decision}
+use Rattle.txn_base.specs.declared.txn.Decision.TheVariants.{Commit, Abort}
+use Rattle.txn_base.specs.declared.txn.Status.{Status}
+use Rattle.txn_base.specs.declared.txn.Status.TheVariants.{Open, Committing, Committed, Aborting, Aborted}
+use Rattle.txn_model.specs.Deadlines.{txn}
+use Rattle.txn_board.specs.declared.view.Load.{Load}
+use Rattle.txn_board.specs.declared.view.View.{View}
+use Rattle.txn_board.specs.declared.words.Word.{Word}
+use Rattle.txn_board.specs.declared.words.Word.TheVariants.{Registered, Decided, Done}
+use Rattle.txn_board.specs.Words.{window, is_in, word_at, has_bit, tells}
+use Rattle.txn_board.specs.Rows.{list_in, low_in, with_loads}
+
+abbrev pub place_of : Load → ℕ
+place_of l = l.place
+
+-- The value of the last load of this place, or one given before where there is none.
+abbrev pub last_value : ℕ → List Load → ℕ → ℕ
+last_value before [] place = before
+last_value before (l ∷ ls) place = last_value (if l.place == place then l.value else before) ls place
+
+-- By these loads, the bit p of this word of the transaction x. Below the low watermark the lists of the opening say it; a
+-- word that wasn't loaded has no bit, and so has one past the window.
+abbrev pub bit_seen : List (List CoreEntry) → List Load → ℕ → Word → ℕ → Bool
+bit_seen lists loads x w p = if nat_lt x (low_in lists) then tells (list_in lists) (txn x) w p else has_bit (last_value 0 loads (word_at (low_in lists) x w)) p
+
+-- The status of a transaction, by whether it is begun, decided by a commit, by an abort, and closed.
+abbrev pub status_by : Bool → Bool → Bool → Bool → Option Status
+status_by false commit abort closed = None
+status_by true true abort closed = Some (if closed then Committed else Committing)
+status_by true false true closed = Some (if closed then Aborted else Aborting)
+status_by true false false closed = Some Open
+
+abbrev pub decision_by : Bool → Bool → Option Decision
+decision_by true abort = Some Commit
+decision_by false true = Some Abort
+decision_by false false = None
+
+-- By these loads, the status of x, its decision.
+abbrev pub status_seen : List (List CoreEntry) → List Load → ℕ → Option Status
+status_seen lists loads x = status_by (bit_seen lists loads x Registered 0) (bit_seen lists loads x Decided 0) (bit_seen lists loads x Decided 1) (bit_seen lists loads x Done 0)
+
+abbrev pub decision_seen : List (List CoreEntry) → List Load → ℕ → Option Decision
+decision_seen lists loads x = decision_by (bit_seen lists loads x Decided 0) (bit_seen lists loads x Decided 1)
+
+-- The words that it takes to tell a status.
+abbrev pub words_of : Option Status → List Word
+words_of None = Registered ∷ []
+words_of (Some Open) = Registered ∷ Decided ∷ []
+words_of (Some Committing) = Registered ∷ Decided ∷ Done ∷ []
+words_of (Some Committed) = Registered ∷ Decided ∷ Done ∷ []
+words_of (Some Aborting) = Registered ∷ Decided ∷ Done ∷ []
+words_of (Some Aborted) = Registered ∷ Decided ∷ Done ∷ []
+
+-- The places of these words of x, in order, where x is in the window; it has none elsewhere.
+abbrev pub places_of : List (List CoreEntry) → ℕ → List Word → List ℕ
+places_of lists x ws = if is_in (low_in lists) window x then map (word_at (low_in lists) x) ws else []
+
+-- The loads of one word of x with this value.
+abbrev pub looked : List (List CoreEntry) → ℕ → Word → ℕ → List Load
+looked lists x w n = if is_in (low_in lists) window x then record { place = word_at (low_in lists) x w; value = n } ∷ [] else []
+
+-- A call loaded just these words of x: the view has those loads more, and nothing else changed.
+pub record Reads (lists : List (List CoreEntry)) (x : ℕ) (ws : List Word) (loads : List Load) (before now : View) : Type 0 where
+  pub view : now ≡ with_loads loads before
+  pub places : map place_of loads ≡ places_of lists x ws

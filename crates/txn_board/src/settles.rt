@@ -1,0 +1,164 @@
+//! The steps at which entries settle, or are lost.
+ghost use Rattle.std.specs.Prelude.{◌≡◌, ◌<◌, ◌*◌, ◌++◌, ◌∷◌, [], ℕ, List, length, slice_index, slice_set, IfSome};
+ghost use Rattle.std.specs.Int.Bits.{bit_or};
+ghost use Rattle.txn_model.specs.Coord.{decision_skeleton};
+ghost use Rattle.txn_model.specs.Deadlines.{txn as txn_of};
+ghost use Rattle.txn_board.specs.declared.words.Mark.{Mark};
+ghost use Rattle.txn_board.specs.Words.{window, marked};
+ghost use Rattle.txn_board.specs.Rows.{low_in, settle_view, drop_view, loaded};
+ghost use Rattle.txn_board.specs.Calls.{IsSettling, IsSetting, IsSettlingOwn, IsEnding, MayDrop, reg_entry, ending_mark};
+
+use crate::board::{Board, BoardSeat, Naming, Promise};
+use crate::fill::WINDOW;
+use crate::view::View;
+use crate::words::{Mark, Word, mark_of, mask_of, offset_of};
+use atomic_table::Play;
+use txn_base::{CoreEntry, Decision, TxnId};
+
+/// The first entry in flight settles.
+pub struct Settles;
+
+impl Play<u8, View> for Settles {
+    ghost use Rattle.std.specs.Prelude.{◌≡◌};
+    ghost use Rattle.txn_board.specs.Rows.{settle_view};
+
+    ghost then = { λ s me n w. w ≡ (settle_view me.0, me.1) };
+}
+
+/// A load at which the first entry in flight settles.
+pub struct SettlesOwn;
+
+impl Play<u8, View> for SettlesOwn {
+    ghost use Rattle.std.specs.Prelude.{◌≡◌};
+    ghost use Rattle.txn_board.specs.Rows.{settle_view, loaded};
+
+    ghost then = { λ s me n w. w ≡ (loaded s.word n (settle_view me.0), me.1) };
+}
+
+/// A load at which the flight is lost.
+pub struct Drops;
+
+impl Play<u8, View> for Drops {
+    ghost use Rattle.std.specs.Prelude.{◌≡◌};
+    ghost use Rattle.txn_board.specs.Rows.{drop_view, loaded};
+
+    ghost then = { λ s me n w. w ≡ (loaded s.word n (drop_view me.0), me.1) };
+}
+
+impl<T: Promise, N: Naming> Board<T, N> {
+    /// The place of a word in the window and what is set there for a mark; nothing of word 0 where the mark has no word.
+    fn bit_of(&self, mark: Option<Mark>) -> (usize, u64)
+        requires { IfSome mark (λ m. m.bit < 64) }
+        ensures place { result.0 < 3 * window }
+        ensures bits { (words : List ℕ) → length words ≡ 3 * window → slice_set words result.0 (bit_or (slice_index words result.0) result.1) ≡ marked (low_in N.lists) window mark words }
+    {
+        let Some(mark) = mark else {
+            return (0, 0);
+        };
+        if mark.txn < self.low {
+            return (0, 0);
+        }
+        let at = mark.txn - self.low;
+        if at >= WINDOW {
+            return (0, 0);
+        }
+        ((3 * at + offset_of(mark.word)) as usize, mask_of(mark.bit))
+    }
+
+    /// The first entry in flight settles, and its bit is set.
+    fn settle(&self, seat: &mut BoardSeat<N>, mark: Option<Mark>)
+        requires bit { IfSome mark (λ m. m.bit < 64) }
+        requires first { T.made → IsSetting mark seat.old }
+        ensures { seat.new ≡ settle_view seat.old }
+    {
+        let (place, mask) = self.bit_of(mark);
+        self.table
+            .shared
+            .fetch_or::<Settles>(&mut seat.seat, place, mask);
+    }
+
+    /// The first message or hold in flight settles.
+    pub fn settle_own(&self, seat: &mut BoardSeat<N>)
+        requires { T.made → IsSettlingOwn seat.old }
+        ensures { (n : ℕ) × (seat.new ≡ loaded 0 n (settle_view seat.old)) }
+    {
+        self.table.shared.load::<SettlesOwn>(&mut seat.seat, 0);
+    }
+
+    /// What is in flight is lost, where it isn't sure to stay.
+    pub fn drop_flight(&self, seat: &mut BoardSeat<N>)
+        requires { T.made → MayDrop seat.old }
+        ensures { (n : ℕ) × (seat.new ≡ loaded 0 n (drop_view seat.old)) }
+    {
+        self.table.shared.load::<Drops>(&mut seat.seat, 0);
+    }
+
+    /// The `New` in flight settles, for part 0, or the `AddPart` of another part.
+    pub fn settle_reg(&self, seat: &mut BoardSeat<N>, txn: u64, part: u32)
+        requires { T.made → IsSettling 0 (reg_entry txn part) seat.old }
+        ensures { seat.new ≡ settle_view seat.old }
+    {
+        let txn = TxnId {
+            most: 0,
+            least: txn,
+        };
+        let entry = if part == 0 {
+            CoreEntry::New { txn }
+        } else {
+            CoreEntry::AddPart { txn, part }
+        };
+        self.settle_entry(seat, entry);
+    }
+
+    /// The decision in flight settles.
+    pub fn settle_dec(&self, seat: &mut BoardSeat<N>, txn: u64, decision: Decision)
+        requires { T.made → IsSettling 0 (decision_skeleton (txn_of txn) decision) seat.old }
+        ensures { seat.new ≡ settle_view seat.old }
+    {
+        let txn = TxnId {
+            most: 0,
+            least: txn,
+        };
+        let entry = match decision {
+            Decision::Commit => CoreEntry::Committing { txn },
+            Decision::Abort => CoreEntry::Aborting { txn },
+        };
+        self.settle_entry(seat, entry);
+    }
+
+    /// The marker in flight settles, or for the coordinator the closing.
+    pub fn settle_done(&self, seat: &mut BoardSeat<N>, txn: u64)
+        requires { T.made → IsEnding txn seat.old }
+        ensures { seat.new ≡ settle_view seat.old }
+    {
+        let mark = ending_mark(seat.part, txn);
+        self.settle(seat, mark);
+    }
+
+    /// An entry of the coordinator settles.
+    fn settle_entry(&self, seat: &mut BoardSeat<N>, entry: CoreEntry)
+        requires { T.made → IsSettling 0 entry seat.old }
+        ensures { seat.new ≡ settle_view seat.old }
+    {
+        let mark = mark_of(0, entry);
+        self.settle(seat, mark);
+    }
+}
+
+/// The bit of the marker of a part, or of the coordinator's closing.
+fn ending_mark(part: Option<u32>, txn: u64) -> Option<Mark>
+    ensures exact { result ≡ ending_mark part txn }
+    ensures bit { IfSome result (λ m. m.bit < 64) }
+{
+    let Some(bit) = part else {
+        return None;
+    };
+    if bit >= 64 {
+        return None;
+    }
+    Some(Mark {
+        txn,
+        word: Word::Done,
+        bit,
+    })
+}
