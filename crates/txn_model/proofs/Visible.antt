@@ -1,6 +1,6 @@
 -- The visible messages in one go: entry by entry, up to the first undecided one. They are the same, and so what is visible
 -- begins what is visible later, and their places are the visible places.
-use Rattle.std.proofs.Common.{◌≡◌, ℕ, zero, suc, ◌+◌, ◌≤◌, arith, Bool, true, false, if◌then◌else◌, List, [], ◌∷◌, ◌++◌, take, Some, None, refl, sym, ap, ◌∙◌, subst}
+use Rattle.std.proofs.Common.{◌≡◌, ℕ, zero, suc, ◌+◌, ◌<◌, ◌≤◌, arith, Bool, true, false, if◌then◌else◌, List, [], ◌∷◌, ◌++◌, length, take, Some, None, refl, sym, ap, ◌∙◌, subst}
 use mathlib.Core.List.{IsPrefix}
 use Rattle.txn_base.specs.declared.core_entry.CoreEntry.TheVariants as core
 use Rattle.txn_base.specs.declared.entry.TopicEntry.TheVariants as topic
@@ -76,8 +76,47 @@ below all k (e ∷ es) (suc m) h =
 pub visible_fused : (es : List TopicEntry) → visible_of es ≡ visible_from (topic_skeletons es) 0 es
 visible_fused es = sym (below (topic_skeletons es) 0 es (limit_of es) (omega arith))
 
-pub visible_below : (es : List TopicEntry) → visible_of es ≡ shown_from (topic_skeletons es) 0 (take (limit_of es) es)
-visible_below es = refl
+-- ---- The limit lies within the list; before it stands no undecided message, and one stands at it.
+
+pub limit_within : (all : List CoreEntry) (k : ℕ) (es : List TopicEntry) → limit_from all k (topic_skeletons es) ≤ k + length es
+limit_within all k [] = omega arith
+limit_within all k (e ∷ es) = pick (is_undecided all (topic_skeleton e)) (limit_within all (suc k) es)
+  where
+    pick : (b : Bool) → limit_from all (suc k) (topic_skeletons es) ≤ suc k + length es
+        → (if b then k else limit_from all (suc k) (topic_skeletons es)) ≤ k + suc (length es)
+    pick true rest = omega arith
+    pick false rest = omega (arith, rest)
+
+pub decided_below : (all : List CoreEntry) (k : ℕ) (before : List TopicEntry) (e : TopicEntry) (after : List TopicEntry)
+    → k + length before < limit_from all k (topic_skeletons (before ++ e ∷ after)) → is_undecided all (topic_skeleton e) ≡ false
+decided_below all k [] e after h = pick (is_undecided all (topic_skeleton e)) h
+  where
+    pick : (b : Bool) → k + 0 < (if b then k else limit_from all (suc k) (topic_skeletons after)) → b ≡ false
+    pick true h = absurd (omega (arith, h))
+    pick false h = refl
+decided_below all k (x ∷ before) e after h = pick (is_undecided all (topic_skeleton x)) h (decided_below all (suc k) before e after)
+  where
+    pick : (b : Bool) → k + suc (length before) < (if b then k else limit_from all (suc k) (topic_skeletons (before ++ e ∷ after)))
+        → (suc k + length before < limit_from all (suc k) (topic_skeletons (before ++ e ∷ after)) → is_undecided all (topic_skeleton e) ≡ false)
+        → is_undecided all (topic_skeleton e) ≡ false
+    pick true h rest = absurd (omega (arith, h))
+    pick false h rest = rest (omega (arith, h))
+
+pub undecided_at : (all : List CoreEntry) (k : ℕ) (before : List TopicEntry) (e : TopicEntry) (after : List TopicEntry)
+    → k + length before ≡ limit_from all k (topic_skeletons (before ++ e ∷ after)) → is_undecided all (topic_skeleton e) ≡ true
+undecided_at all k [] e after h = pick (is_undecided all (topic_skeleton e)) h (limit_above all (suc k) (topic_skeletons after))
+  where
+    pick : (b : Bool) → k + 0 ≡ (if b then k else limit_from all (suc k) (topic_skeletons after)) → suc k ≤ limit_from all (suc k) (topic_skeletons after)
+        → b ≡ true
+    pick true h above = refl
+    pick false h above = absurd (omega (arith, h, above))
+undecided_at all k (x ∷ before) e after h = pick (is_undecided all (topic_skeleton x)) h (undecided_at all (suc k) before e after)
+  where
+    pick : (b : Bool) → k + suc (length before) ≡ (if b then k else limit_from all (suc k) (topic_skeletons (before ++ e ∷ after)))
+        → (suc k + length before ≡ limit_from all (suc k) (topic_skeletons (before ++ e ∷ after)) → is_undecided all (topic_skeleton e) ≡ true)
+        → is_undecided all (topic_skeleton e) ≡ true
+    pick true h rest = absurd (omega (arith, h))
+    pick false h rest = rest (omega (arith, h))
 
 -- ---- What is visible begins what is visible later, and the limit never falls.
 

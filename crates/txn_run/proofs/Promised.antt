@@ -1,5 +1,5 @@
 -- A lawful world keeps the promises, and one that extends another lets nothing lapse.
-use Rattle.std.proofs.Common.{◌≡◌, ℕ, ◌≤◌, Bool, false, if◌then◌else◌, List, ◌++◌, length, Some, sym, ap, ◌∙◌, subst}
+use Rattle.std.proofs.Common.{◌≡◌, ℕ, ◌+◌, ◌<◌, ◌≤◌, Bool, false, if◌then◌else◌, List, ◌∷◌, ◌++◌, length, Some, refl, arith, sym, ap, ◌∙◌, subst}
 use mathlib.Core.List.{IsPrefix}
 use Rattle.txn_base.specs.declared.core_entry.CoreEntry.{CoreEntry}
 use Rattle.txn_base.specs.declared.entry.CoordEntry.{CoordEntry}
@@ -13,21 +13,31 @@ use Rattle.txn_model.specs.Names.{name_of}
 use Rattle.txn_model.specs.Skeletons.{coord_skeleton, coord_skeletons, topic_skeletons, ack_skeletons}
 use Rattle.txn_model.specs.World.{Lawful, Extends, log_of, part_skeletons}
 use Rattle.txn_model.specs.Words.{list_at}
-use Rattle.txn_model.specs.Topic.{visible_of, limit_of, marker_of}
-use Rattle.txn_model.proofs.Laws.Topics.{visible_below, visible_longer, limit_longer}
+use Rattle.txn_model.specs.Topic.{visible_of, limit_from, limit_of, marker_of}
+use Rattle.txn_model.proofs.Laws.Topics.{visible_longer, limit_longer, limit_within, decided_below, undecided_at}
 use Rattle.txn_model.proofs.Laws.Logs.{decision_stays, undecided_before}
 use Rattle.txn_model.proofs.Laws.Lists.{map_append}
 use Rattle.txn_engine.specs.Above.{StandsAbove}
 use Rattle.txn_run.proofs.Effects.{all_effects}
-use Rattle.txn_run.specs.Promises.{Promises, NeverLapses, KeepsPromises}
+use Rattle.txn_run.specs.Promises.{ReadsBeforeUndecided, Promises, NeverLapses, KeepsPromises}
 
 -- the list of a topic is that of its part
 topic_of : (w : World) (p : ℕ) → is_sub (name_of w.names p) ≡ false → part_skeletons w p ≡ topic_skeletons (list_at w.topics p)
 topic_of w p topic = ap (λ (b : Bool). if b then ack_skeletons (list_at w.subs p) else topic_skeletons (list_at w.topics p)) topic
 
+before_undecided : (es : List TopicEntry) → ReadsBeforeUndecided es
+before_undecided es = record {
+  reads = refl;
+  within = omega (arith, limit_within (topic_skeletons es) 0 es);
+  before = λ front behind e split below. decided_below (topic_skeletons es) 0 front e behind
+      (subst (λ (l : List TopicEntry). 0 + length front < limit_from (topic_skeletons es) 0 (topic_skeletons l)) split (omega (arith, below)));
+  at = λ front behind e split here. undecided_at (topic_skeletons es) 0 front e behind
+      (subst (λ (l : List TopicEntry). 0 + length front ≡ limit_from (topic_skeletons es) 0 (topic_skeletons l)) split (omega (arith, here)));
+}
+
 promised : (w : World) → Lawful w → Promises w
 promised w lawful = record {
-  cursor = λ p. visible_below (list_at w.topics p);
+  cursor = λ p. before_undecided (list_at w.topics p);
   registered = lawful.registered;
   effect = λ p topic. all_effects (log_of w) (list_at w.topics p) (λ x marked. lawful.decided p x Commit (ap (λ (c : List CoreEntry). marker_of c x) (topic_of w p topic) ∙ marked));
   decided = lawful.decided;

@@ -1,5 +1,5 @@
 -- What every image of a run promises to readers and to clients, in the words of transactions.
-use Rattle.std.specs.Prelude.{◌≡◌, ℕ, ◌≤◌, true, false, List, ◌∷◌, ◌++◌, take, length, All, Some, None}
+use Rattle.std.specs.Prelude.{◌≡◌, ℕ, ◌<◌, ◌≤◌, true, false, List, ◌∷◌, ◌++◌, take, length, All, Some, None}
 use mathlib.Core.List.{IsPrefix}
 use Rattle.txn_base.specs.declared.core_entry.CoreEntry.{CoreEntry}
 use Rattle.txn_base.specs.declared.core_entry.CoreEntry.TheVariants as core
@@ -16,14 +16,18 @@ use Rattle.txn_model.specs.Entries.{message_of}
 use Rattle.txn_model.specs.Names.{name_of}
 use Rattle.txn_model.specs.Skeletons.{topic_skeleton, topic_skeletons}
 use Rattle.txn_model.specs.Sound.{StandsFor}
-use Rattle.txn_model.specs.Topic.{limit_of, marker_of, shown_from, visible_of}
+use Rattle.txn_model.specs.Topic.{is_undecided, limit_of, marker_of, shown_from, visible_of}
 use Rattle.txn_model.specs.Words.{list_at}
 use Rattle.txn_model.specs.World.{log_of, part_skeletons, has_inside}
 
 -- In a topic's list: what a cursor reads are, in order, the plain messages and those of committed transactions before the
--- first message of an undecided one.
-abbrev pub ReadsBeforeUndecided : List TopicEntry → Type 0
-ReadsBeforeUndecided es = visible_of es ≡ shown_from (topic_skeletons es) 0 (take (limit_of es) es)
+-- limit. No entry before the limit is a message of an undecided transaction; and the limit is the end, or such a message
+-- stands there.
+pub record ReadsBeforeUndecided (es : List TopicEntry) : Type 0 where
+  pub reads : visible_of es ≡ shown_from (topic_skeletons es) 0 (take (limit_of es) es)
+  pub within : limit_of es ≤ length es
+  pub before : (front behind : List TopicEntry) (e : TopicEntry) → es ≡ front ++ e ∷ behind → length front < limit_of es → is_undecided (topic_skeletons es) (topic_skeleton e) ≡ false
+  pub at : (front behind : List TopicEntry) (e : TopicEntry) → es ≡ front ++ e ∷ behind → length front ≡ limit_of es → is_undecided (topic_skeletons es) (topic_skeleton e) ≡ true
 
 -- By the log c, an entry is a plain message, or one of a transaction whose logged decision is Commit.
 abbrev pub MayShow : List CoreEntry → CoreEntry → Type 0

@@ -9,7 +9,7 @@ use Rattle.txn_base.specs.Disk.{Files}
 use Rattle.txn_base.specs.Moves.{After}
 use Rattle.txn_base.specs.declared.limits.Limits.{Limits}
 use Rattle.txn_base.specs.declared.reply.Reply.{Reply}
-use Rattle.txn_engine.specs.Opening.{AreParts, KeepsLists}
+use Rattle.txn_engine.specs.Opening.{AreParts, KeepsLists, KeepsAllDamaged}
 use Rattle.txn_model.specs.declared.world.World.{World}
 use Rattle.txn_model.specs.Cut.{whole_lines, lines_of}
 use Rattle.txn_model.specs.Opening.{first_state}
@@ -153,11 +153,11 @@ RunsOn D I O K ended limits names d d' i i' o o' k k' =
 abbrev pub Asks : List (List ℕ) → (List (List ℕ) → Type 0) → Type 0
 Asks words holds = (name : List ℕ) → command_of words ≡ Ok name → holds (name ∷ [])
 
--- With 5, the outside is as it was but for the lists of the files; or the reply to the last line told of a fault, and the
--- files of n parts had been read.
+-- With 5, source, sink and clock are as they were, each file stands for its list, and one in which an open gate begins no frame
+-- stays as it was; or the reply to the last line told of a fault, and the files of n parts had been read.
 abbrev pub DiskStopped : {D I O K : Type 0} → disk.Ghosts D → source.Ghosts I → sink.Ghosts O → ℕ → (d d' : D) → (i i' : I) → (o o' : O) → (k k' : K) → Type 0
 DiskStopped D I O n d d' i i' o o' k k' =
-    ((i' ≡ i) × (o' ≡ o) × (k' ≡ k) × After D KeepsLists d d')
+    ((i' ≡ i) × (o' ≡ o) × (k' ≡ k) × After D KeepsLists d d' × (D.tells → KeepsAllDamaged (D.seen d) (D.seen d')))
     ⊎ (FaultIsLast (I.left i) (I.left i') (O.held o) (O.held o') × (D.tells → AreParts n (D.seen d)))
 
 -- The statuses of a run that took all its input, or whose source or sink failed, or that took too much.

@@ -79,7 +79,7 @@ returns-in-Err-clause-answers g c told sound =
     })
 
 pub returns-in-Err-clause-stopped : goal.returns-in-Err-clause-stopped
-returns-in-Err-clause-stopped g c is = inl (refl, refl, refl, c.in-Err.ensures.lists)
+returns-in-Err-clause-stopped g c is = inl (refl, refl, refl, c.in-Err.ensures.lists, c.in-Err.ensures.uncut)
 
 pub returns-in-Err-clause-disk : goal.returns-in-Err-clause-disk
 returns-in-Err-clause-disk g c =
