@@ -82,18 +82,19 @@ class Telling:
             disk.files[file] = memory.File(data)
 
     def tell_fault(self, step):
-        self.tell_trap(step)
-        word, call, number = step.rest.split()
-        self.awaited.append((step.number, story_text.file_of(word), call, story_text.number_of(number)))
-
-    def look_back(self):
-        """Each call that is to fail came on one of the disks; of how many reads there are no page tells."""
-        for number, file, call, nth in self.awaited:
-            if call != "read" and all(disk.counts[file, call] < nth for disk in self.disks):
-                self.wrong(number, "by the rules no such call comes")
-        self.awaited = []
+        self.list_fault(step, True)
 
     def tell_trap(self, step):
+        self.list_fault(step, False)
+
+    def look_back(self):
+        """Each call that is to fail came on each of the disks, and none that is a trap; how many reads there are no page tells."""
+        for number, file, call, nth, comes in self.awaited:
+            if call != "read" and any((disk.counts[file, call] >= nth) != comes for disk in self.disks):
+                self.wrong(number, f"by the rules {'no such' if comes else 'such a'} call comes")
+        self.awaited = []
+
+    def list_fault(self, step, comes):
         word, call, number = step.rest.split()
         if call not in ("size", "read", "write", "resize", "sync"):
             raise ValueError(f"no call: {call}")
@@ -101,6 +102,7 @@ class Telling:
             if disk.calls:
                 raise NotAnswered("a fault that is told behind a run")
             disk.faults.add((story_text.file_of(word), call, story_text.number_of(number)))
+        self.awaited.append((step.number, story_text.file_of(word), call, story_text.number_of(number), comes))
 
     def tell_clock(self, step):
         self.next["clock"] = [story_text.number_of(word) for word in step.rest.split()]
@@ -162,6 +164,7 @@ class Telling:
         self.tell_or(step)
 
     def tell_or(self, step):
+        self.look_back()
         if self.stopped is None or not CHOICE.fullmatch(step.rest):
             raise ValueError(f"no crash, or none before: {step.rest}")
         choices = memory.CRASHES if step.rest == "any" else (step.rest,)

@@ -71,21 +71,20 @@ impl Machine {
         self.is_fresh = false;
     }
 
-    /// On one of the disks at least, as many calls failed as were awaited.
+    /// On each of the disks as many calls failed as were awaited.
     pub fn are_met(&self) -> Result<(), Wrong> {
         let awaited = self.awaited;
-        let mut most = 0;
         for disk in &self.disks {
-            most = disk.failed_calls().max(most);
+            let failed = disk.failed_calls();
+            if failed != awaited {
+                return Err(Wrong::Came {
+                    what: String::from_str(self.alloc, "the calls that failed")?,
+                    want: format!(in self.alloc; "{awaited}")?,
+                    came: format!(in self.alloc; "{failed}")?,
+                });
+            }
         }
-        if awaited <= most {
-            return Ok(());
-        }
-        Err(Wrong::Came {
-            what: String::from_str(self.alloc, "the calls that failed")?,
-            want: format!(in self.alloc; "{awaited}")?,
-            came: format!(in self.alloc; "{most}")?,
-        })
+        Ok(())
     }
 
     /// The next run begins on what a crash leaves, by each of these choices.
@@ -102,6 +101,7 @@ impl Machine {
         if self.crashed.is_empty() {
             return Err(Wrong::Line("there was no crash before"));
         }
+        self.are_met()?;
         self.disks = left_by(self.alloc, &self.crashed, choices)?;
         self.forget();
         Ok(())

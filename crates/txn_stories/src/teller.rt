@@ -368,7 +368,6 @@ fn put_ended(alloc: Global, text: &str, end: &str, out: &mut Vec<u8>) -> Result<
     Ok(())
 }
 
-/// The numbers of a line.
 /// A call on a file, by its number among the calls of its kind.
 fn fault_of(rest: &str) -> Result<FaultAt, Wrong> {
     let (file, call) = first_word(rest);
@@ -380,6 +379,7 @@ fn fault_of(rest: &str) -> Result<FaultAt, Wrong> {
     })
 }
 
+/// The numbers of a line.
 fn numbers_of(alloc: Global, rest: &str) -> Result<Vec<u64>, Wrong> {
     let mut numbers = Vec::new(alloc);
     for word in rest.split_whitespace() {
