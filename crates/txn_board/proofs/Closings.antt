@@ -23,7 +23,7 @@ use Rattle.txn_core.specs.Steps.{settled_of, flight_of, is_decision, is_marked, 
 use Rattle.txn_core.proofs.Laws.{decision_test}
 use Rattle.txn_board.specs.declared.view.View.{View}
 use Rattle.txn_board.specs.declared.words.Word.TheVariants.{Registered, Done}
-use Rattle.txn_board.specs.Words.{window, IsIn, word_at, as_bit, has_bit, ends, sets, tells}
+use Rattle.txn_board.specs.Words.{window, IsIn, word_at, as_bit, is_bit_set, ends, sets, tells}
 use Rattle.txn_board.specs.Rows.{parts_in, low_in, loaded}
 use Rattle.txn_board.specs.Rule.{Holds, AllowsTo}
 use Rattle.txn_board.specs.Calls.{MayStart, MayClose, IsOfRow, missing_from, first_missing, closing_by, closing_in, closing_where, start_where}
@@ -32,20 +32,20 @@ use Rattle.txn_board.proofs.Steps.{kept, mine}
 
 -- ---- The first part that is missing.
 
-none_missing : (reg done left p : ℕ) → missing_from reg done left p ≡ None → (q : ℕ) → p ≤ q → q < p + left → has_bit reg q ≡ true → has_bit done q ≡ true
+none_missing : (reg done left p : ℕ) → missing_from reg done left p ≡ None → (q : ℕ) → p ≤ q → q < p + left → is_bit_set reg q ≡ true → is_bit_set done q ≡ true
 none_missing reg done zero p e q low high h = absurd (omega (arith, low, high))
-none_missing reg done (suc left) p e q low high h = go (has_bit reg p && not (has_bit done p)) refl e (λ k l r. none_missing reg done left (p + 1) k q l r h)
+none_missing reg done (suc left) p e q low high h = go (is_bit_set reg p && not (is_bit_set done p)) refl e (λ k l r. none_missing reg done left (p + 1) k q l r h)
   where
     here : (a b : Bool) → (a && not b) ≡ false → a ≡ true → b ≡ true
     here true true f g = refl
     here true false f g = absurd (no_true (sym f))
     here false b f g = absurd (no_true g)
 
-    go : (t : Bool) → (has_bit reg p && not (has_bit done p)) ≡ t → (if t then Some p else missing_from reg done left (p + 1)) ≡ None → (missing_from reg done left (p + 1) ≡ None → p + 1 ≤ q → q < p + 1 + left → has_bit done q ≡ true) → has_bit done q ≡ true
+    go : (t : Bool) → (is_bit_set reg p && not (is_bit_set done p)) ≡ t → (if t then Some p else missing_from reg done left (p + 1)) ≡ None → (missing_from reg done left (p + 1) ≡ None → p + 1 ≤ q → q < p + 1 + left → is_bit_set done q ≡ true) → is_bit_set done q ≡ true
     go true f k later = absurd (cc k)
     go false f k later =
         elim (ℕ_discrete q p) [
-          | yes is ↦ subst (λ j. has_bit done j ≡ true) (sym is) (here (has_bit reg p) (has_bit done p) f (subst (λ j. has_bit reg j ≡ true) is h))
+          | yes is ↦ subst (λ j. is_bit_set done j ≡ true) (sym is) (here (is_bit_set reg p) (is_bit_set done p) f (subst (λ j. is_bit_set reg j ≡ true) is h))
           | no n ↦ later k (omega (arith, low, n)) (omega (arith, high))
         ]
 
@@ -55,10 +55,10 @@ one_less p lt = omega (arith, lt)
 none_left : (p : ℕ) → 64 ≤ p → 64 - p ≡ 0
 none_left p le = omega (arith, le)
 
-pub missing_here : (reg done p : ℕ) → p < 64 → (has_bit reg p && not (has_bit done p)) ≡ true → missing_from reg done (64 - p) p ≡ Some p
+pub missing_here : (reg done p : ℕ) → p < 64 → (is_bit_set reg p && not (is_bit_set done p)) ≡ true → missing_from reg done (64 - p) p ≡ Some p
 missing_here reg done p lt h = ap (λ n. missing_from reg done n p) (one_less p lt) ∙ ap (λ b. if b then Some p else missing_from reg done (64 - (p + 1)) (p + 1)) h
 
-pub missing_goes : (reg done p : ℕ) → p < 64 → (has_bit reg p && not (has_bit done p)) ≡ false → missing_from reg done (64 - p) p ≡ missing_from reg done (64 - (p + 1)) (p + 1)
+pub missing_goes : (reg done p : ℕ) → p < 64 → (is_bit_set reg p && not (is_bit_set done p)) ≡ false → missing_from reg done (64 - p) p ≡ missing_from reg done (64 - (p + 1)) (p + 1)
 missing_goes reg done p lt h = ap (λ n. missing_from reg done n p) (one_less p lt) ∙ ap (λ b. if b then Some p else missing_from reg done (64 - (p + 1)) (p + 1)) h
 
 pub missing_ends : (reg done p : ℕ) → 64 ≤ p → missing_from reg done (64 - p) p ≡ None
@@ -86,7 +86,7 @@ some_marker x (e ∷ es) h = go (marks x e) refl (some_marker x es)
 
 module _ (lists : List (List CoreEntry)) (s : table.State ℕ View) (h : Holds lists s) (x : ℕ) where
   -- a part that is done has the marker of the logged decision
-  marked_part : (d : Decision) (q : ℕ) → IsIn (low_in lists) window x → 1 ≤ q → q ≤ 62 → decision_of (settled_of h.state 0) (txn x) ≡ Some d → has_bit (slice_index s.words (word_at (low_in lists) x Done)) q ≡ true → is_decision (marker_of (settled_of h.state q) (txn x)) d ≡ true
+  marked_part : (d : Decision) (q : ℕ) → IsIn (low_in lists) window x → 1 ≤ q → q ≤ 62 → decision_of (settled_of h.state 0) (txn x) ≡ Some d → is_bit_set (slice_index s.words (word_at (low_in lists) x Done)) q ≡ true → is_decision (marker_of (settled_of h.state q) (txn x)) d ≡ true
   marked_part d zero inside low high dec bit = absurd (omega (arith, low))
   marked_part d (suc q) inside low high dec bit =
       let told : tells (settled_of h.state) (txn x) Done (suc q) ≡ true = bit_true (tells (settled_of h.state) (txn x) Done (suc q)) (ap (λ k. k == 1) (sym (h.words.bits x Done (suc q) inside (omega (arith, high)))) ∙ bit) in
@@ -96,7 +96,7 @@ module _ (lists : List (List CoreEntry)) (s : table.State ℕ View) (h : Holds l
       decision_test (marker_of (settled_of h.state (suc q)) (txn x)) d (m.1 ∙ ap Some same)
 
   all_marked : (d : Decision) (reg : ℕ) → IsIn (low_in lists) window x → decision_of (settled_of h.state 0) (txn x) ≡ Some d
-      → ((p : ℕ) → p < 64 → has_bit reg p ≡ tells (settled_of h.state) (txn x) Registered p)
+      → ((p : ℕ) → p < 64 → is_bit_set reg p ≡ tells (settled_of h.state) (txn x) Registered p)
       → first_missing reg (slice_index s.words (word_at (low_in lists) x Done)) ≡ None → is_marked (settled_of h.state) (txn x) d ≡ true
   all_marked d reg inside dec own none =
       all_of (in_parts (settled_of h.state 0) (txn x)) (λ q. is_decision (marker_of (settled_of h.state q) (txn x)) d) 1 62
@@ -126,7 +126,7 @@ starts_close lists id v place x reg inside at m own =
         let its = mine lists s h id v seat m.may.row m.may.one in
         let log : settled_of h.state 0 ≡ m.may.row.row.settled = ap (settled_of h.state) (sym m.first) ∙ ap (λ (r : CoreRow). r.settled) its.2 in
         let dec : decision_of (settled_of h.state 0) (txn x) ≡ Some m.decision = ap (λ l. decision_of l (txn x)) log ∙ m.decided in
-        let bits : (p : ℕ) → p < 64 → has_bit reg p ≡ tells (settled_of h.state) (txn x) Registered p = λ p lt. own m.may.row m.may.one m.first p lt ∙ ap (λ l. list_any (sets Registered p (txn x)) l) (sym log) in
+        let bits : (p : ℕ) → p < 64 → is_bit_set reg p ≡ tells (settled_of h.state) (txn x) Registered p = λ p lt. own m.may.row m.may.one m.first p lt ∙ ap (λ l. list_any (sets Registered p (txn x)) l) (sym log) in
         let none : first_missing reg (slice_index s.words (word_at (low_in lists) x Done)) ≡ None = ap (λ i. first_missing reg (slice_index s.words i)) (sym at) ∙ f in
         let all = closing_cross (settled_of h.state) m.may.row.part (txn x) m.decision (all_marked lists s h x m.decision reg inside dec bits none) in
         subst (λ (es : List CoreEntry). (k : MayStart (parts_in lists) es v) × (list_all (may_cross (settled_of h.state) k.row.part) es ≡ true)) (sym one) (m.may, all)
@@ -137,7 +137,7 @@ pub of_row : (lists : List (List CoreEntry)) (s : table.State ℕ View) (h : Hol
 of_row lists s h id v seat place x inside at r one first p lt =
     let its = mine lists s h id v seat r one in
     let log : settled_of h.state 0 ≡ r.row.settled = ap (settled_of h.state) (sym first) ∙ ap (λ (k : CoreRow). k.settled) its.2 in
-    ap (λ i. has_bit (slice_index s.words i) p) at ∙ (ap (λ k. k == 1) (h.words.bits x Registered p inside lt) ∙ (bit (tells (settled_of h.state) (txn x) Registered p) ∙ by p log))
+    ap (λ i. is_bit_set (slice_index s.words i) p) at ∙ (ap (λ k. k == 1) (h.words.bits x Registered p inside lt) ∙ (bit (tells (settled_of h.state) (txn x) Registered p) ∙ by p log))
   where
     bit : (b : Bool) → (as_bit b == 1) ≡ b
     bit true = refl

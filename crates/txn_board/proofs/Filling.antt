@@ -9,7 +9,7 @@ use Rattle.std.proofs.lemmas.Nat.Bits.{bit_at-zero}
 use native.Mathlib.Decide.{ℕ_discrete, dec_lt}
 use Rattle.txn_base.specs.declared.core_entry.CoreEntry.{CoreEntry}
 use Rattle.txn_board.specs.declared.words.Word.TheVariants.{Done}
-use Rattle.txn_board.specs.Words.{word_at, as_bit, has_bit, WordsSay, mark_of, marked, with_more, open_from, has_closing}
+use Rattle.txn_board.specs.Words.{word_at, as_bit, is_bit_set, WordsSay, mark_of, with_mark, with_more, open_from, has_closing}
 use Rattle.txn_board.specs.Rows.{list_in}
 use Rattle.txn_board.proofs.Marks.{noted, offset_small}
 
@@ -30,10 +30,10 @@ more_step lists p es k d lt q = go (q == p)
 
 pub note_step : (count : ℕ) (old now : List ℕ) (p : ℕ) (es : List CoreEntry) (k : ℕ) (d : CoreEntry) → k < length es
     → ((lists : ℕ → List CoreEntry) → WordsSay 0 count old lists → WordsSay 0 count now (with_more lists p (take k es)))
-    → (lists : ℕ → List CoreEntry) → WordsSay 0 count old lists → WordsSay 0 count (marked 0 count (mark_of p (get_or es k d)) now) (with_more lists p (take (k + 1) es))
+    → (lists : ℕ → List CoreEntry) → WordsSay 0 count old lists → WordsSay 0 count (with_mark 0 count (mark_of p (get_or es k d)) now) (with_more lists p (take (k + 1) es))
 note_step count old now p es k d lt so lists h =
-    subst (λ j. WordsSay 0 count (marked 0 count (mark_of p (get_or es k d)) now) (with_more lists p (take j es))) (one_more k)
-    (subst (WordsSay 0 count (marked 0 count (mark_of p (get_or es k d)) now)) (λ i q. more_step lists p es k d lt q i)
+    subst (λ j. WordsSay 0 count (with_mark 0 count (mark_of p (get_or es k d)) now) (with_more lists p (take j es))) (one_more k)
+    (subst (WordsSay 0 count (with_mark 0 count (mark_of p (get_or es k d)) now)) (λ i q. more_step lists p es k d lt q i)
     (noted 0 count now (with_more lists p (take k es)) p (get_or es k d) (so lists h)))
 
 pub note_none : (count : ℕ) (old : List ℕ) (p : ℕ) (lists : ℕ → List CoreEntry) → WordsSay 0 count old lists → WordsSay 0 count old (with_more lists p [])
@@ -88,9 +88,9 @@ low_ends closed begun low le = ap (λ n. open_from closed n low) (none_left begu
 done_at : (k : ℕ) → word_at 0 k Done ≡ 3 * k + 2
 done_at k = omega arith
 
-pub closed_bit : (count : ℕ) (words : List ℕ) (lists : ℕ → List CoreEntry) (k : ℕ) → WordsSay 0 count words lists → k < count → has_bit (slice_index words (3 * k + 2)) 0 ≡ has_closing (lists 0) k
+pub closed_bit : (count : ℕ) (words : List ℕ) (lists : ℕ → List CoreEntry) (k : ℕ) → WordsSay 0 count words lists → k < count → is_bit_set (slice_index words (3 * k + 2)) 0 ≡ has_closing (lists 0) k
 closed_bit count words lists k say lt =
-    ap (λ i. has_bit (slice_index words i) 0) (sym (done_at k)) ∙ (ap (λ b. b == 1) (say.bits k Done 0 (record { least = omega arith; most = omega (arith, lt) }) (omega arith)) ∙ go (has_closing (lists 0) k))
+    ap (λ i. is_bit_set (slice_index words i) 0) (sym (done_at k)) ∙ (ap (λ b. b == 1) (say.bits k Done 0 (record { least = omega arith; most = omega (arith, lt) }) (omega arith)) ∙ go (has_closing (lists 0) k))
   where
     go : (b : Bool) → (as_bit b == 1) ≡ b
     go true = refl

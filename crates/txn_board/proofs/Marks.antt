@@ -18,7 +18,7 @@ use Rattle.txn_model.proofs.Laws.Tests.{no_true, and_l, and_r, and_both}
 use Rattle.txn_board.specs.declared.words.Word.{Word}
 use Rattle.txn_board.specs.declared.words.Word.TheVariants.{Registered, Decided, Done}
 use Rattle.txn_board.specs.declared.words.Mark.{Mark}
-use Rattle.txn_board.specs.Words.{IsIn, is_in, offset, word_at, as_bit, sets, teller, tells, WordsSay, mark_of, set_bit, marked, with_more}
+use Rattle.txn_board.specs.Words.{IsIn, is_in, offset, word_at, as_bit, sets, teller, tells, WordsSay, mark_of, set_bit, with_mark, with_more}
 use Rattle.txn_board.proofs.Hits.{same_word, hit_by, hits}
 
 pub told_more : (lists : ℕ → List CoreEntry) (p : ℕ) (es : List CoreEntry) (x : TxnId) (w : Word) (i : ℕ) → tells (with_more lists p es) x w i ≡ (tells lists x w i || (teller w i == p && list_any (sets w i x) es))
@@ -133,7 +133,7 @@ module _ (first count : ℕ) (words : List ℕ) (lists lists' : ℕ → List Cor
               off true = refl
               off false = refl
 
-  says_marked : (m : Option Mark) → ((x : ℕ) (w : Word) (i : ℕ) → i < 64 → tells lists' (txn x) w i ≡ (tells lists (txn x) w i || hit_by m x w i)) → WordsSay first count (marked first count m words) lists'
+  says_marked : (m : Option Mark) → ((x : ℕ) (w : Word) (i : ℕ) → i < 64 → tells lists' (txn x) w i ≡ (tells lists (txn x) w i || hit_by m x w i)) → WordsSay first count (with_mark first count m words) lists'
   says_marked None more = says_same (λ x w i inside lt. more x w i lt ∙ or-false (tells lists (txn x) w i))
   says_marked (Some m) more = go (is_in first count m.txn) refl
     where
@@ -145,7 +145,7 @@ module _ (first count : ℕ) (words : List ℕ) (lists lists' : ℕ → List Cor
 
 -- an entry more in the list of a part, and its bit in the words
 pub noted : (first count : ℕ) (words : List ℕ) (lists : ℕ → List CoreEntry) (p : ℕ) (e : CoreEntry) → WordsSay first count words lists
-    → WordsSay first count (marked first count (mark_of p e) words) (with_more lists p (e ∷ []))
+    → WordsSay first count (with_mark first count (mark_of p e) words) (with_more lists p (e ∷ []))
 noted first count words lists p e say =
     says_marked first count words lists (with_more lists p (e ∷ [])) say (mark_of p e)
     (λ x w i lt. told_more lists p (e ∷ []) (txn x) w i ∙ ap (λ b. tells lists (txn x) w i || b) (hits p e x w i lt))

@@ -12,9 +12,9 @@ use Rattle.txn_board.specs.declared.view.Load.{Load}
 use Rattle.txn_board.specs.declared.view.View.{View}
 use Rattle.txn_board.specs.declared.words.Word.{Word}
 use Rattle.txn_board.specs.declared.words.Word.TheVariants.{Registered, Decided, Done}
-use Rattle.txn_board.specs.Words.{window, is_in, offset, word_at, as_bit, has_bit, tells}
+use Rattle.txn_board.specs.Words.{window, is_in, offset, word_at, as_bit, is_bit_set, tells}
 use Rattle.txn_board.specs.Rows.{list_in, low_in, with_loads}
-use Rattle.txn_board.specs.Seen.{place_of, last_value, bit_seen, status_by, status_seen, words_of, places_of, looked, Reads}
+use Rattle.txn_board.specs.Seen.{place_of, last_value, bit_seen, status_by, status_seen, words_of, word_places, looked, Reads}
 use Rattle.txn_board.proofs.Marks.{in_by}
 
 last_append : (b : ℕ) (xs ys : List Load) (place : ℕ) → last_value b (xs ++ ys) place ≡ last_value (last_value b xs place) ys place
@@ -40,14 +40,14 @@ module _ (lists : List (List CoreEntry)) (x : ℕ) where
       go true = ap (λ t. if t then n else b) (ne_eqb (word_at (low_in lists) x w) (word_at (low_in lists) x v) (λ e. away (omega (arith, e))))
       go false = refl
 
-  places_one : (w : Word) (n : ℕ) → map place_of (looked lists x w n) ≡ places_of lists x (w ∷ [])
+  places_one : (w : Word) (n : ℕ) → map place_of (looked lists x w n) ≡ word_places lists x (w ∷ [])
   places_one w n = go (is_in (low_in lists) window x)
     where
       go : (t : Bool) → map place_of (if t then record { place = word_at (low_in lists) x w; value = n } ∷ [] else []) ≡ (if t then word_at (low_in lists) x w ∷ [] else [])
       go true = refl
       go false = refl
 
-  places_more : (w : Word) (ws : List Word) → places_of lists x (w ∷ []) ++ places_of lists x ws ≡ places_of lists x (w ∷ ws)
+  places_more : (w : Word) (ws : List Word) → word_places lists x (w ∷ []) ++ word_places lists x ws ≡ word_places lists x (w ∷ ws)
   places_more w ws = go (is_in (low_in lists) window x)
     where
       go : (t : Bool) → (if t then word_at (low_in lists) x w ∷ [] else []) ++ (if t then map (word_at (low_in lists) x) ws else []) ≡ (if t then word_at (low_in lists) x w ∷ map (word_at (low_in lists) x) ws else [])
@@ -56,20 +56,20 @@ module _ (lists : List (List CoreEntry)) (x : ℕ) where
 
   -- a word that was looked at, whose last load is this
   bit_of : (loads : List Load) (w : Word) (n p : ℕ) → p < 64 → Looked lists x w n → (is_in (low_in lists) window x ≡ true → last_value 0 loads (word_at (low_in lists) x w) ≡ n) → (is_in (low_in lists) window x ≡ false → loads ≡ [])
-      → bit_seen lists loads x w p ≡ has_bit n p
+      → bit_seen lists loads x w p ≡ is_bit_set n p
   bit_of loads w n p small k last none = go (dec_lt x (low_in lists))
     where
       bit : (b : Bool) → b ≡ (as_bit b == 1)
       bit true = refl
       bit false = refl
 
-      go : Dec (x < low_in lists) → bit_seen lists loads x w p ≡ has_bit n p
+      go : Dec (x < low_in lists) → bit_seen lists loads x w p ≡ is_bit_set n p
       go (yes lt) =
-          ap (λ t. if t then tells (list_in lists) (txn x) w p else has_bit (last_value 0 loads (word_at (low_in lists) x w)) p) (lt-ltb x (low_in lists) lt)
+          ap (λ t. if t then tells (list_in lists) (txn x) w p else is_bit_set (last_value 0 loads (word_at (low_in lists) x w)) p) (lt-ltb x (low_in lists) lt)
           ∙ (bit (tells (list_in lists) (txn x) w p) ∙ sym (ap (λ m. m == 1) (k.below lt p small)))
       go (no m) =
-          ap (λ t. if t then tells (list_in lists) (txn x) w p else has_bit (last_value 0 loads (word_at (low_in lists) x w)) p) (le-ltb x (low_in lists) (omega (arith, m)))
-          ∙ ap (λ v. has_bit v p) (side (dec_lt x (low_in lists + window)))
+          ap (λ t. if t then tells (list_in lists) (txn x) w p else is_bit_set (last_value 0 loads (word_at (low_in lists) x w)) p) (le-ltb x (low_in lists) (omega (arith, m)))
+          ∙ ap (λ v. is_bit_set v p) (side (dec_lt x (low_in lists + window)))
         where
           side : Dec (x < low_in lists + window) → last_value 0 loads (word_at (low_in lists) x w) ≡ n
           side (yes l) = last (in_by (low_in lists) window x (record { least = omega (arith, m); most = l }))
@@ -84,7 +84,7 @@ module _ (lists : List (List CoreEntry)) (x : ℕ) where
   no_looked : (w : Word) (n : ℕ) → is_in (low_in lists) window x ≡ false → looked lists x w n ≡ []
   no_looked w n i = ap (λ t. if t then record { place = word_at (low_in lists) x w; value = n } ∷ [] else []) i
 
-  pub one_bit : (w : Word) (n p : ℕ) → p < 64 → Looked lists x w n → bit_seen lists (looked lists x w n) x w p ≡ has_bit n p
+  pub one_bit : (w : Word) (n p : ℕ) → p < 64 → Looked lists x w n → bit_seen lists (looked lists x w n) x w p ≡ is_bit_set n p
   one_bit w n p small k = bit_of (looked lists x w n) w n p small k (last_hit 0 w n) (no_looked w n)
 
   pub one_reads : (w : Word) (n : ℕ) (v v' : View) → v' ≡ with_loads (looked lists x w n) v → Reads lists x (w ∷ []) (looked lists x w n) v v'
@@ -99,26 +99,26 @@ module _ (lists : List (List CoreEntry)) (x : ℕ) where
   two_none : (a b : ℕ) → is_in (low_in lists) window x ≡ false → two a b ≡ []
   two_none a b i = ap (λ l. l ++ looked lists x Decided b) (no_looked Registered a i) ∙ no_looked Decided b i
 
-  two_places : (a b : ℕ) → map place_of (two a b) ≡ places_of lists x (Registered ∷ Decided ∷ [])
+  two_places : (a b : ℕ) → map place_of (two a b) ≡ word_places lists x (Registered ∷ Decided ∷ [])
   two_places a b =
       places_append (looked lists x Registered a) (looked lists x Decided b)
-      ∙ (ap (λ l. l ++ map place_of (looked lists x Decided b)) (places_one Registered a) ∙ (ap (λ l. places_of lists x (Registered ∷ []) ++ l) (places_one Decided b) ∙ places_more Registered (Decided ∷ [])))
+      ∙ (ap (λ l. l ++ map place_of (looked lists x Decided b)) (places_one Registered a) ∙ (ap (λ l. word_places lists x (Registered ∷ []) ++ l) (places_one Decided b) ∙ places_more Registered (Decided ∷ [])))
 
-  three_places : (a b c : ℕ) → map place_of (three a b c) ≡ places_of lists x (Registered ∷ Decided ∷ Done ∷ [])
+  three_places : (a b c : ℕ) → map place_of (three a b c) ≡ word_places lists x (Registered ∷ Decided ∷ Done ∷ [])
   three_places a b c =
-      places_append (two a b) (looked lists x Done c) ∙ (ap (λ l. l ++ map place_of (looked lists x Done c)) (two_places a b) ∙ (ap (λ l. places_of lists x (Registered ∷ Decided ∷ []) ++ l) (places_one Done c) ∙ last_of_all (is_in (low_in lists) window x)))
+      places_append (two a b) (looked lists x Done c) ∙ (ap (λ l. l ++ map place_of (looked lists x Done c)) (two_places a b) ∙ (ap (λ l. word_places lists x (Registered ∷ Decided ∷ []) ++ l) (places_one Done c) ∙ last_of_all (is_in (low_in lists) window x)))
     where
       last_of_all : (t : Bool) → (if t then map (word_at (low_in lists) x) (Registered ∷ Decided ∷ []) else []) ++ (if t then map (word_at (low_in lists) x) (Done ∷ []) else []) ≡ (if t then map (word_at (low_in lists) x) (Registered ∷ Decided ∷ Done ∷ []) else [])
       last_of_all true = refl
       last_of_all false = refl
 
-  two_registered : (a b p : ℕ) → p < 64 → Looked lists x Registered a → bit_seen lists (two a b) x Registered p ≡ has_bit a p
+  two_registered : (a b p : ℕ) → p < 64 → Looked lists x Registered a → bit_seen lists (two a b) x Registered p ≡ is_bit_set a p
   two_registered a b p small k =
       bit_of (two a b) Registered a p small k
       (λ i. last_append 0 (looked lists x Registered a) (looked lists x Decided b) (word_at (low_in lists) x Registered) ∙ (last_miss (last_value 0 (looked lists x Registered a) (word_at (low_in lists) x Registered)) Decided Registered b (λ e. omega (arith, e)) ∙ last_hit 0 Registered a i))
       (two_none a b)
 
-  two_decided : (a b p : ℕ) → p < 64 → Looked lists x Decided b → bit_seen lists (two a b) x Decided p ≡ has_bit b p
+  two_decided : (a b p : ℕ) → p < 64 → Looked lists x Decided b → bit_seen lists (two a b) x Decided p ≡ is_bit_set b p
   two_decided a b p small k =
       bit_of (two a b) Decided b p small k
       (λ i. last_append 0 (looked lists x Registered a) (looked lists x Decided b) (word_at (low_in lists) x Decided) ∙ last_hit (last_value 0 (looked lists x Registered a) (word_at (low_in lists) x Decided)) Decided b i)
@@ -129,11 +129,11 @@ module _ (lists : List (List CoreEntry)) (x : ℕ) where
 
   -- a word of the first two, behind which the third was looked at
   three_old : (a b c p : ℕ) (w : Word) (n : ℕ) → offset Done ≢ offset w → p < 64 → Looked lists x w n → (is_in (low_in lists) window x ≡ true → last_value 0 (two a b) (word_at (low_in lists) x w) ≡ n)
-      → bit_seen lists (three a b c) x w p ≡ has_bit n p
+      → bit_seen lists (three a b c) x w p ≡ is_bit_set n p
   three_old a b c p w n away small k last =
       bit_of (three a b c) w n p small k (λ i. last_append 0 (two a b) (looked lists x Done c) (word_at (low_in lists) x w) ∙ (last_miss (last_value 0 (two a b) (word_at (low_in lists) x w)) Done w c away ∙ last i)) (three_none a b c)
 
-  three_done : (a b c p : ℕ) → p < 64 → Looked lists x Done c → bit_seen lists (three a b c) x Done p ≡ has_bit c p
+  three_done : (a b c p : ℕ) → p < 64 → Looked lists x Done c → bit_seen lists (three a b c) x Done p ≡ is_bit_set c p
   three_done a b c p small k =
       bit_of (three a b c) Done c p small k (λ i. last_append 0 (two a b) (looked lists x Done c) (word_at (low_in lists) x Done) ∙ last_hit (last_value 0 (two a b) (word_at (low_in lists) x Done)) Done c i) (three_none a b c)
 
@@ -142,7 +142,7 @@ module _ (lists : List (List CoreEntry)) (x : ℕ) where
   abbrev pub IsStatus : View → View → Option Status → Type 0
   IsStatus v v' s = (loads : List Load) × Reads lists x (words_of s) loads v v' × (s ≡ status_seen lists loads x)
 
-  pub not_begun : (a : ℕ) (v v1 : View) → Looked lists x Registered a → v1 ≡ with_loads (looked lists x Registered a) v → has_bit a 0 ≡ false → IsStatus v v1 None
+  pub not_begun : (a : ℕ) (v v1 : View) → Looked lists x Registered a → v1 ≡ with_loads (looked lists x Registered a) v → is_bit_set a 0 ≡ false → IsStatus v v1 None
   not_begun a v v1 k e h =
       let ls = looked lists x Registered a in (
         ls,
@@ -151,7 +151,7 @@ module _ (lists : List (List CoreEntry)) (x : ℕ) where
       )
 
   pub still_open : (a b : ℕ) (v v1 v2 : View) → Looked lists x Registered a → Looked lists x Decided b → v1 ≡ with_loads (looked lists x Registered a) v → v2 ≡ with_loads (looked lists x Decided b) v1
-      → has_bit a 0 ≡ true → has_bit b 0 ≡ false → has_bit b 1 ≡ false → IsStatus v v2 (Some Open)
+      → is_bit_set a 0 ≡ true → is_bit_set b 0 ≡ false → is_bit_set b 1 ≡ false → IsStatus v v2 (Some Open)
   still_open a b v v1 v2 k l e f h c d =
       let ls = two a b in (
         ls,
@@ -169,21 +169,21 @@ module _ (lists : List (List CoreEntry)) (x : ℕ) where
 
   pub once_decided : (a b c : ℕ) (v v1 v2 v3 : View) → Looked lists x Registered a → Looked lists x Decided b → Looked lists x Done c
       → v1 ≡ with_loads (looked lists x Registered a) v → v2 ≡ with_loads (looked lists x Decided b) v1 → v3 ≡ with_loads (looked lists x Done c) v2
-      → has_bit a 0 ≡ true → ((has_bit b 0 ≡ false) × (has_bit b 1 ≡ false) → ⊥) → IsStatus v v3 (status_by true (has_bit b 0) (has_bit b 1) (has_bit c 0))
+      → is_bit_set a 0 ≡ true → ((is_bit_set b 0 ≡ false) × (is_bit_set b 1 ≡ false) → ⊥) → IsStatus v v3 (status_by true (is_bit_set b 0) (is_bit_set b 1) (is_bit_set c 0))
   once_decided a b c v v1 v2 v3 k l m e f g h d =
       let ls = three a b c in (
         ls,
         record {
           view = g ∙ (ap (with_loads (looked lists x Done c)) (f ∙ (ap (with_loads (looked lists x Decided b)) e ∙ ap (λ ms. record { rows = v.rows; loads = ms }) (append_assoc v.loads (looked lists x Registered a) (looked lists x Decided b))))
               ∙ ap (λ ms. record { rows = v.rows; loads = ms }) (append_assoc v.loads (two a b) (looked lists x Done c)));
-          places = three_places a b c ∙ ap (places_of lists x) (sym (decided_words (has_bit b 0) (has_bit b 1) (has_bit c 0) d));
+          places = three_places a b c ∙ ap (word_places lists x) (sym (decided_words (is_bit_set b 0) (is_bit_set b 1) (is_bit_set c 0) d));
         },
         sym (ap (λ t. status_by t (bit_seen lists ls x Decided 0) (bit_seen lists ls x Decided 1) (bit_seen lists ls x Done 0))
             (three_old a b c 0 Registered a (λ q. omega (arith, q)) (omega arith) k
             (λ i. last_append 0 (looked lists x Registered a) (looked lists x Decided b) (word_at (low_in lists) x Registered) ∙ (last_miss (last_value 0 (looked lists x Registered a) (word_at (low_in lists) x Registered)) Decided Registered b (λ q. omega (arith, q)) ∙ last_hit 0 Registered a i)) ∙ h)
             ∙ (ap (λ t. status_by true t (bit_seen lists ls x Decided 1) (bit_seen lists ls x Done 0)) (three_old a b c 0 Decided b (λ q. omega (arith, q)) (omega arith) l dec)
-            ∙ (ap (λ t. status_by true (has_bit b 0) t (bit_seen lists ls x Done 0)) (three_old a b c 1 Decided b (λ q. omega (arith, q)) (omega arith) l dec)
-            ∙ ap (λ t. status_by true (has_bit b 0) (has_bit b 1) t) (three_done a b c 0 (omega arith) m)))),
+            ∙ (ap (λ t. status_by true (is_bit_set b 0) t (bit_seen lists ls x Done 0)) (three_old a b c 1 Decided b (λ q. omega (arith, q)) (omega arith) l dec)
+            ∙ ap (λ t. status_by true (is_bit_set b 0) (is_bit_set b 1) t) (three_done a b c 0 (omega arith) m)))),
       )
     where
       dec : is_in (low_in lists) window x ≡ true → last_value 0 (two a b) (word_at (low_in lists) x Decided) ≡ b

@@ -20,13 +20,13 @@ use Rattle.txn_core.proofs.Laws.{stop_lawful}
 use Rattle.txn_board.specs.declared.view.SeatRow.{SeatRow}
 use Rattle.txn_board.specs.declared.view.View.{View}
 use Rattle.txn_board.specs.Words.{window, WordsSay}
-use Rattle.txn_board.specs.Rows.{parts_in, list_in, low_in, AreRows, NoneOf, AreApart, HasRow, AreFrom, rows_from, first_view, rest_rows, first_rows, rest_view, dealt_view, joined_view, spent_view, kept_rows}
-use Rattle.txn_board.specs.Rule.{LoadsHold, MayOpen, Holds}
+use Rattle.txn_board.specs.Rows.{parts_in, list_in, low_in, AreSeatRows, NoneOf, AreApart, HasSeatRow, AreFrom, rows_from, opening_view, rest_rows, first_rows, rest_view, dealt_view, joined_view, spent_view, kept_rows}
+use Rattle.txn_board.specs.Rule.{LoadsHold, CanOpenBoard, Holds}
 use Rattle.txn_board.proofs.Steps.{settled_at, row_at, kept}
 
 -- ---- Opening.
 
-fits_from : (owner : ℕ → ℕ) (lists front : List (List CoreEntry)) (p : ℕ) (ls : List (List CoreEntry)) → ((q : ℕ) → owner q ≡ 0) → lists ≡ front ++ ls → length front ≡ p → AreRows (resting_core lists) owner 0 (rows_from p ls)
+fits_from : (owner : ℕ → ℕ) (lists front : List (List CoreEntry)) (p : ℕ) (ls : List (List CoreEntry)) → ((q : ℕ) → owner q ≡ 0) → lists ≡ front ++ ls → length front ≡ p → AreSeatRows (resting_core lists) owner 0 (rows_from p ls)
 fits_from owner lists front p [] mine is len = tt
 fits_from owner lists front p (l ∷ ls) mine is len =
     let lt : p < length lists = omega (arith, ap length is, length-append front (l ∷ ls), len) in
@@ -47,7 +47,7 @@ one_view : (P : ℕ → View → Type 0) (v : View) → P 0 v → (id : ℕ) (u 
 one_view P v h zero u e = subst (P 0) (some-injective v u e) h
 one_view P v h (suc id) u e = absurd (some-ne-none u (sym e))
 
-pub opens : (lists : List (List CoreEntry)) (words : List ℕ) → MayOpen lists → WordsSay (low_in lists) window words (list_in lists) → Holds lists (opening words [] (first_view lists))
+pub opens : (lists : List (List CoreEntry)) (words : List ℕ) → CanOpenBoard lists → WordsSay (low_in lists) window words (list_in lists) → Holds lists (opening words [] (opening_view lists))
 opens lists words may say =
     record {
       state = resting_core lists;
@@ -56,9 +56,9 @@ opens lists words may say =
       steps = [];
       reached = refl;
       words = subst (WordsSay (low_in lists) window words) (λ i p. sym (settled_at lists p) i) say;
-      rows = one_view (λ id u. AreRows (resting_core lists) (λ _. 0) id u.rows) (first_view lists) (fits_from (λ _. 0) lists [] 0 lists (λ _. refl) refl refl);
-      apart = one_view (λ _ u. AreApart u.rows) (first_view lists) (apart_from 0 lists);
-      loads = one_view (λ _ u. LoadsHold words u.loads) (first_view lists) tt;
+      rows = one_view (λ id u. AreSeatRows (resting_core lists) (λ _. 0) id u.rows) (opening_view lists) (fits_from (λ _. 0) lists [] 0 lists (λ _. refl) refl refl);
+      apart = one_view (λ _ u. AreApart u.rows) (opening_view lists) (apart_from 0 lists);
+      loads = one_view (λ _ u. LoadsHold words u.loads) (opening_view lists) tt;
     }
 
 pub from_opening : (p : ℕ) (ls : List (List CoreEntry)) → AreFrom p (rows_from p ls)
@@ -87,11 +87,11 @@ given_here : (owner : ℕ → ℕ) (p n : ℕ) → given owner p n p ≡ n
 given_here owner p n = ap (λ b. if b then n else owner p) (eq-eqb p p refl)
 
 -- rows of other parts keep their seat
-keep_rows : (c : CoreState) (owner : ℕ → ℕ) (p n id : ℕ) (rs : List SeatRow) → NoneOf p rs → AreRows c owner id rs → AreRows c (given owner p n) id rs
+keep_rows : (c : CoreState) (owner : ℕ → ℕ) (p n id : ℕ) (rs : List SeatRow) → NoneOf p rs → AreSeatRows c owner id rs → AreSeatRows c (given owner p n) id rs
 keep_rows c owner p n id [] none f = tt
 keep_rows c owner p n id (r ∷ rs) none f = ((given_else owner p n r.part (λ e. none.0 (sym e)) ∙ f.0.0, f.0.1, f.0.2), keep_rows c owner p n id rs none.1 f.1)
 
-none_there : (c : CoreState) (owner : ℕ → ℕ) (p id j : ℕ) (rs : List SeatRow) → owner p ≡ id → j ≢ id → AreRows c owner j rs → NoneOf p rs
+none_there : (c : CoreState) (owner : ℕ → ℕ) (p id j : ℕ) (rs : List SeatRow) → owner p ≡ id → j ≢ id → AreSeatRows c owner j rs → NoneOf p rs
 none_there c owner p id j [] mine away f = tt
 none_there c owner p id j (r ∷ rs) mine away f = ((λ e. away (sym f.0.0 ∙ (ap owner (sym e) ∙ mine))), none_there c owner p id j rs mine away f.1)
 
@@ -106,7 +106,7 @@ deals lists id v = λ s h seat. go s h seat v.rows refl
       steps = h.steps;
       reached = h.reached;
       words = h.words;
-      rows = each (λ j u. AreRows h.state owner' j u.rows) (rest_fit rows is) (first_fit rows is) (else_fit rows is);
+      rows = each (λ j u. AreSeatRows h.state owner' j u.rows) (rest_fit rows is) (first_fit rows is) (else_fit rows is);
       apart = each (λ _ u. AreApart u.rows) (rest_apart v.rows (h.apart id v seat)) (first_apart v.rows) (λ j u away e. h.apart j u e);
       loads = each (λ _ u. LoadsHold s.words u.loads) (h.loads id v seat) tt (λ j u away e. h.loads j u e);
     }
@@ -139,21 +139,21 @@ deals lists id v = λ s h seat. go s h seat v.rows refl
         first_apart [] = tt
         first_apart (r ∷ rs) = (tt, tt)
 
-        all : (rs : List SeatRow) → v.rows ≡ rs → AreRows h.state h.owner id rs
-        all rs e = subst (λ l. AreRows h.state h.owner id l) e (h.rows id v seat)
+        all : (rs : List SeatRow) → v.rows ≡ rs → AreSeatRows h.state h.owner id rs
+        all rs e = subst (λ l. AreSeatRows h.state h.owner id l) e (h.rows id v seat)
 
         apart : (rs : List SeatRow) → v.rows ≡ rs → AreApart rs
         apart rs e = subst AreApart e (h.apart id v seat)
 
-        rest_fit : (rs : List SeatRow) → v.rows ≡ rs → AreRows h.state (owner_by rs) id (rest_rows v.rows)
-        rest_fit [] e = subst (λ l. AreRows h.state h.owner id (rest_rows l)) (sym e) tt
-        rest_fit (r ∷ rs) e = subst (λ l. AreRows h.state (given h.owner r.part new) id (rest_rows l)) (sym e) (keep_rows h.state h.owner r.part new id rs (apart (r ∷ rs) e).0 (all (r ∷ rs) e).1)
+        rest_fit : (rs : List SeatRow) → v.rows ≡ rs → AreSeatRows h.state (owner_by rs) id (rest_rows v.rows)
+        rest_fit [] e = subst (λ l. AreSeatRows h.state h.owner id (rest_rows l)) (sym e) tt
+        rest_fit (r ∷ rs) e = subst (λ l. AreSeatRows h.state (given h.owner r.part new) id (rest_rows l)) (sym e) (keep_rows h.state h.owner r.part new id rs (apart (r ∷ rs) e).0 (all (r ∷ rs) e).1)
 
-        first_fit : (rs : List SeatRow) → v.rows ≡ rs → AreRows h.state (owner_by rs) new (first_rows v.rows)
-        first_fit [] e = subst (λ l. AreRows h.state h.owner new (first_rows l)) (sym e) tt
-        first_fit (r ∷ rs) e = subst (λ l. AreRows h.state (given h.owner r.part new) new (first_rows l)) (sym e) (let f = (all (r ∷ rs) e).0 in ((given_here h.owner r.part new, f.1, f.2), tt))
+        first_fit : (rs : List SeatRow) → v.rows ≡ rs → AreSeatRows h.state (owner_by rs) new (first_rows v.rows)
+        first_fit [] e = subst (λ l. AreSeatRows h.state h.owner new (first_rows l)) (sym e) tt
+        first_fit (r ∷ rs) e = subst (λ l. AreSeatRows h.state (given h.owner r.part new) new (first_rows l)) (sym e) (let f = (all (r ∷ rs) e).0 in ((given_here h.owner r.part new, f.1, f.2), tt))
 
-        else_fit : (rs : List SeatRow) → v.rows ≡ rs → (j : ℕ) (u : View) → j ≢ id → get_elem? s.views j ≡ some u → AreRows h.state (owner_by rs) j u.rows
+        else_fit : (rs : List SeatRow) → v.rows ≡ rs → (j : ℕ) (u : View) → j ≢ id → get_elem? s.views j ≡ some u → AreSeatRows h.state (owner_by rs) j u.rows
         else_fit [] e j u away at = h.rows j u at
         else_fit (r ∷ rs) e j u away at = keep_rows h.state h.owner r.part new j u.rows (none_there h.state h.owner r.part id j u.rows (all (r ∷ rs) e).0.0 away (h.rows j u at)) (h.rows j u at)
 
@@ -168,19 +168,19 @@ moved_here owner other id q e = ap (λ b. if b then id else owner q) (eq-eqb (ow
 moved_else : (owner : ℕ → ℕ) (other id q j : ℕ) → owner q ≡ j → j ≢ other → moved owner other id q ≡ j
 moved_else owner other id q j e n = ap (λ b. if b then id else owner q) (ne_eqb (owner q) other (λ k. n (sym e ∙ k))) ∙ e
 
-fit_from : (c : CoreState) (owner : ℕ → ℕ) (other id : ℕ) (rs : List SeatRow) → AreRows c owner other rs → AreRows c (moved owner other id) id rs
+fit_from : (c : CoreState) (owner : ℕ → ℕ) (other id : ℕ) (rs : List SeatRow) → AreSeatRows c owner other rs → AreSeatRows c (moved owner other id) id rs
 fit_from c owner other id [] f = tt
 fit_from c owner other id (r ∷ rs) f = ((moved_here owner other id r.part f.0.0, f.0.1, f.0.2), fit_from c owner other id rs f.1)
 
-fit_else : (c : CoreState) (owner : ℕ → ℕ) (other id j : ℕ) (rs : List SeatRow) → j ≢ other → AreRows c owner j rs → AreRows c (moved owner other id) j rs
+fit_else : (c : CoreState) (owner : ℕ → ℕ) (other id j : ℕ) (rs : List SeatRow) → j ≢ other → AreSeatRows c owner j rs → AreSeatRows c (moved owner other id) j rs
 fit_else c owner other id j [] n f = tt
 fit_else c owner other id j (r ∷ rs) n f = ((moved_else owner other id r.part j f.0.0 n, f.0.1, f.0.2), fit_else c owner other id j rs n f.1)
 
-fit_append : (c : CoreState) (owner : ℕ → ℕ) (id : ℕ) (xs ys : List SeatRow) → AreRows c owner id xs → AreRows c owner id ys → AreRows c owner id (xs ++ ys)
+fit_append : (c : CoreState) (owner : ℕ → ℕ) (id : ℕ) (xs ys : List SeatRow) → AreSeatRows c owner id xs → AreSeatRows c owner id ys → AreSeatRows c owner id (xs ++ ys)
 fit_append c owner id [] ys f g = g
 fit_append c owner id (x ∷ xs) ys f g = (f.0, fit_append c owner id xs ys f.1 g)
 
-none_apart : (c : CoreState) (owner : ℕ → ℕ) (p id other : ℕ) (rs : List SeatRow) → owner p ≡ id → other ≢ id → AreRows c owner other rs → NoneOf p rs
+none_apart : (c : CoreState) (owner : ℕ → ℕ) (p id other : ℕ) (rs : List SeatRow) → owner p ≡ id → other ≢ id → AreSeatRows c owner other rs → NoneOf p rs
 none_apart c owner p id other [] e n f = tt
 none_apart c owner p id other (r ∷ rs) e n f = ((λ k. n (sym f.0.0 ∙ (ap owner (sym k) ∙ e))), none_apart c owner p id other rs e n f.1)
 
@@ -188,7 +188,7 @@ none_append : (p : ℕ) (xs ys : List SeatRow) → NoneOf p xs → NoneOf p ys �
 none_append p [] ys f g = g
 none_append p (x ∷ xs) ys f g = (f.0, none_append p xs ys f.1 g)
 
-apart_append : (c : CoreState) (owner : ℕ → ℕ) (id other : ℕ) (xs ys : List SeatRow) → other ≢ id → AreRows c owner id xs → AreRows c owner other ys → AreApart xs → AreApart ys → AreApart (xs ++ ys)
+apart_append : (c : CoreState) (owner : ℕ → ℕ) (id other : ℕ) (xs ys : List SeatRow) → other ≢ id → AreSeatRows c owner id xs → AreSeatRows c owner other ys → AreApart xs → AreApart ys → AreApart (xs ++ ys)
 apart_append c owner id other [] ys n f g a b = b
 apart_append c owner id other (x ∷ xs) ys n f g a b = (none_append x.part xs ys a.0 (none_apart c owner x.part id other ys f.0.0 n g), apart_append c owner id other xs ys n f.1 g a.1 b)
 
@@ -205,7 +205,7 @@ joins lists id v other w = λ s h seat n there.
       steps = h.steps;
       reached = h.reached;
       words = h.words;
-      rows = each s id both other (λ j u. AreRows h.state (moved h.owner other id) j u.rows)
+      rows = each s id both other (λ j u. AreSeatRows h.state (moved h.owner other id) j u.rows)
           (fit_append h.state (moved h.owner other id) id v.rows w.rows (fit_else h.state h.owner other id id v.rows (λ e. n' (sym e)) (h.rows id v seat)) (fit_from h.state h.owner other id w.rows (h.rows other w its)))
           tt (λ j u a b e. fit_else h.state h.owner other id j u.rows b (h.rows j u e));
       apart = each s id both other (λ _ u. AreApart u.rows) (apart_append h.state h.owner id other v.rows w.rows n' (h.rows id v seat) (h.rows other w its) (h.apart id v seat) (h.apart other w its)) tt (λ j u a b e. h.apart j u e);
@@ -243,18 +243,18 @@ run_rows n s (st ∷ steps) = run_rows n (if can n s st then core_after s st els
 rows_of : (lists : List (List CoreEntry)) (s : table.State ℕ View) (h : Holds lists s) → length h.state.rows ≡ length lists
 rows_of lists s h = ap (λ (c : CoreState). length c.rows) (sym h.reached) ∙ (run_rows (parts_in lists) (resting_core lists) h.steps ∙ length-map lists resting_row)
 
-at_row : (c : CoreState) (owner : ℕ → ℕ) (id p : ℕ) (stays : ℕ → Bool) (rs : List SeatRow) → AreRows c owner id rs → HasRow p rs → kept_rows rs stays p ≡ kept_of c stays p
+at_row : (c : CoreState) (owner : ℕ → ℕ) (id p : ℕ) (stays : ℕ → Bool) (rs : List SeatRow) → AreSeatRows c owner id rs → HasSeatRow p rs → kept_rows rs stays p ≡ kept_of c stays p
 at_row c owner id p stays [] f has = absurd has
 at_row c owner id p stays (r ∷ rs) f has = go (ℕ_discrete p r.part) (at_row c owner id p stays rs f.1)
   where
     mine : List CoreEntry
     mine = if stays p then r.row.settled ++ r.row.flight else r.row.settled
 
-    go : Dec (p ≡ r.part) → (HasRow p rs → kept_rows rs stays p ≡ kept_of c stays p) → (if p == r.part then mine else kept_rows rs stays p) ≡ kept_of c stays p
+    go : Dec (p ≡ r.part) → (HasSeatRow p rs → kept_rows rs stays p ≡ kept_of c stays p) → (if p == r.part then mine else kept_rows rs stays p) ≡ kept_of c stays p
     go (yes e) more = ap (λ b. if b then mine else kept_rows rs stays p) (eq-eqb p r.part e) ∙ sym (ap (λ (x : CoreRow). if stays p then x.settled ++ x.flight else x.settled) (ap (λ q. row_of c q) e ∙ f.0.2))
     go (no n) more = ap (λ b. if b then mine else kept_rows rs stays p) (ne_eqb p r.part n) ∙ more (⊎_elim (λ k. absurd (n k)) (λ k. k) has)
 
-no_list : (c : CoreState) (owner : ℕ → ℕ) (id p : ℕ) (stays : ℕ → Bool) (rs : List SeatRow) → AreRows c owner id rs → length c.rows ≤ p → kept_rows rs stays p ≡ []
+no_list : (c : CoreState) (owner : ℕ → ℕ) (id p : ℕ) (stays : ℕ → Bool) (rs : List SeatRow) → AreSeatRows c owner id rs → length c.rows ≤ p → kept_rows rs stays p ≡ []
 no_list c owner id p stays [] f le = refl
 no_list c owner id p stays (r ∷ rs) f le =
     let lt = f.0.1 in
@@ -268,7 +268,7 @@ none_kept c stays p le = ap (λ (x : CoreRow). if stays p then x.settled ++ x.fl
     both false = refl
 
 -- where a seat has every part's row, its lists are lawful together, whichever flights are kept
-pub closes : (lists : List (List CoreEntry)) (s : table.State ℕ View) (id : ℕ) (v : View) → Holds lists s → get_elem? s.views id ≡ some v → ((p : ℕ) → p < length lists → HasRow p v.rows) → (stays : ℕ → Bool) → AreLawful (parts_in lists) (kept_rows v.rows stays)
+pub closes : (lists : List (List CoreEntry)) (s : table.State ℕ View) (id : ℕ) (v : View) → Holds lists s → get_elem? s.views id ≡ some v → ((p : ℕ) → p < length lists → HasSeatRow p v.rows) → (stays : ℕ → Bool) → AreLawful (parts_in lists) (kept_rows v.rows stays)
 closes lists s id v h seat all stays =
     let same : (p : ℕ) → kept_rows v.rows stays p ≡ kept_of h.state stays p = λ p. go p (dec_lt p (length h.state.rows)) in
     subst (AreLawful (parts_in lists)) (λ i p. sym (same p) i) (stop_lawful (parts_in lists) (settled_of h.state) (λ p. (row_of h.state p).flight) (kept lists s h).stands stays)

@@ -23,7 +23,7 @@ use Rattle.txn_core.specs.Steps.{no_row, row_of, settled_of, flight_of, with_row
 use Rattle.txn_board.specs.declared.view.SeatRow.{SeatRow}
 use Rattle.txn_board.specs.declared.view.Load.{Load}
 use Rattle.txn_board.specs.declared.view.View.{View}
-use Rattle.txn_board.specs.Words.{window, WordsSay, mark_where, mark_of, marked, with_more, word_at, set_bit}
+use Rattle.txn_board.specs.Words.{window, WordsSay, mark_where, mark_of, with_mark, with_more, word_at, set_bit}
 use Rattle.txn_board.specs.Rows.{IsNumberOf, low_in, with_row_by, settle_view, drop_view, loaded}
 use Rattle.txn_board.specs.Rule.{LoadsHold, Holds, AllowsTo}
 use Rattle.txn_board.specs.Calls.{IsSettling, MayDrop, IsSetting, is_quiet, IsSettlingOwn, IsEnding, end_entry, ending_mark}
@@ -37,20 +37,20 @@ module _ (lists : List (List CoreEntry)) (s : table.State ℕ View) (h : Holds l
       let l : 0 < length (flight_of h.state r.part) = subst (λ es. 0 < length es) (sym (ap (λ (x : CoreRow). x.flight) m.2 ∙ f)) (omega arith) in
       and_both (nat_lt r.part (length h.state.rows)) (nat_lt 0 (length (flight_of h.state r.part))) (lt-ltb r.part (length h.state.rows) m.1) (lt-ltb 0 (length (flight_of h.state r.part)) l)
 
-  pub settles_to : (e : CoreEntry) (rest : List CoreEntry) → r.row.flight ≡ e ∷ rest → (words : List ℕ) → words ≡ marked (low_in lists) window (mark_of r.part e) s.words
+  pub settles_to : (e : CoreEntry) (rest : List CoreEntry) → r.row.flight ≡ e ∷ rest → (words : List ℕ) → words ≡ with_mark (low_in lists) window (mark_of r.part e) s.words
       → (next : View) → next.rows ≡ with_row_by settle_row v.rows → LoadsHold s.words next.loads
       → Holds lists (record { words = words; homes = s.homes; views = set s.views id next })
   settles_to e rest f words bits next rows' loads' =
       row_changes lists s h id v seat r is (act.Settle r.part) (flying e rest f) (settle_row r.row) (ap (λ x. with_row h.state r.part (settle_row x)) m.2) next (rows' ∙ ap (with_row_by settle_row) is) words
       (subst (λ ws. WordsSay (low_in lists) window ws (settled_of (with_row h.state r.part (settle_row r.row)))) (sym bits)
-      (subst (WordsSay (low_in lists) window (marked (low_in lists) window (mark_of r.part e) s.words)) (λ j q. sym (more q) j) (noted (low_in lists) window s.words (settled_of h.state) r.part e h.words)))
+      (subst (WordsSay (low_in lists) window (with_mark (low_in lists) window (mark_of r.part e) s.words)) (λ j q. sym (more q) j) (noted (low_in lists) window s.words (settled_of h.state) r.part e h.words)))
       grow (grow next.loads loads')
     where
       m : (h.owner r.part ≡ id) × (r.part < length h.state.rows) × (row_of h.state r.part ≡ r.row)
       m = mine lists s h id v seat r is
 
       grow : (ls : List Load) → LoadsHold s.words ls → LoadsHold words ls
-      grow ls k = subst (λ ws. LoadsHold ws ls) (sym bits) (loads_grow s.words (marked (low_in lists) window (mark_of r.part e) s.words) (marked_grows (low_in lists) window (mark_of r.part e) s.words h.words.size) ls k)
+      grow ls k = subst (λ ws. LoadsHold ws ls) (sym bits) (loads_grow s.words (with_mark (low_in lists) window (mark_of r.part e) s.words) (marked_grows (low_in lists) window (mark_of r.part e) s.words h.words.size) ls k)
 
       more : (q : ℕ) → settled_of (with_row h.state r.part (settle_row r.row)) q ≡ with_more (settled_of h.state) r.part (e ∷ []) q
       more q = go (ℕ_discrete q r.part)
@@ -73,7 +73,7 @@ module _ (lists : List (List CoreEntry)) (s : table.State ℕ View) (h : Holds l
 
 -- a step on a word at which the bit of the entry is set
 pub settles : (lists : List (List CoreEntry)) (id : ℕ) (v : View) (part : ℕ) (e : CoreEntry) (i : ℕ) (f : ℕ → ℕ) → IsSettling part e v
-    → ((words : List ℕ) → length words ≡ 3 * window → set words i (f (slice_index words i)) ≡ marked (low_in lists) window (mark_of part e) words)
+    → ((words : List ℕ) → length words ≡ 3 * window → set words i (f (slice_index words i)) ≡ with_mark (low_in lists) window (mark_of part e) words)
     → AllowsTo (Holds lists) id v i f (λ n. settle_view v)
 settles lists id v part e i f k bits =
     λ s h seat.
@@ -84,7 +84,7 @@ pub settles_own : (lists : List (List CoreEntry)) (id : ℕ) (v : View) (part : 
 settles_own lists id v part e k none =
     λ s h seat.
     settles_to lists s h id v seat (record { part = part; row = k.row }) k.one e k.rest k.first (set s.words 0 (slice_index s.words 0))
-    (set-get_or s.words 0 0 ∙ sym (ap (λ m. marked (low_in lists) window m s.words) none)) (loaded 0 (slice_index s.words 0) (settle_view v)) refl (loads_more s.words v.loads 0 (h.loads id v seat))
+    (set-get_or s.words 0 0 ∙ sym (ap (λ m. with_mark (low_in lists) window m s.words) none)) (loaded 0 (slice_index s.words 0) (settle_view v)) refl (loads_more s.words v.loads 0 (h.loads id v seat))
 
 pub drops : (lists : List (List CoreEntry)) (id : ℕ) (v : View) → MayDrop v → AllowsTo (Holds lists) id v 0 (λ n. n) (λ n. loaded 0 n (drop_view v))
 drops lists id v k = λ s h seat. drops_to lists s h id v seat k.row k.one k.entry k.rest k.first k.unsure 0
@@ -104,20 +104,20 @@ pub settles_quiet : (lists : List (List CoreEntry)) (id : ℕ) (v : View) → Is
 settles_quiet lists id v k = settles_own lists id v k.part k.entry k.settling (quiet_none k.part k.entry k.quiet)
 
 pub settles_mark : (lists : List (List CoreEntry)) (id : ℕ) (v : View) (m : Option Mark) (i mask : ℕ) → IsSetting m v
-    → ((words : List ℕ) → length words ≡ 3 * window → set words i (bit_or (slice_index words i) mask) ≡ marked (low_in lists) window m words)
+    → ((words : List ℕ) → length words ≡ 3 * window → set words i (bit_or (slice_index words i) mask) ≡ with_mark (low_in lists) window m words)
     → AllowsTo (Holds lists) id v i (λ n. bit_or n mask) (λ n. settle_view v)
-settles_mark lists id v m i mask k bits = settles lists id v k.part k.entry i (λ n. bit_or n mask) k.settling (λ words size. bits words size ∙ ap (λ o. marked (low_in lists) window o words) (sym k.sets))
+settles_mark lists id v m i mask k bits = settles lists id v k.part k.entry i (λ n. bit_or n mask) k.settling (λ words size. bits words size ∙ ap (λ o. with_mark (low_in lists) window o words) (sym k.sets))
 
 -- ---- Which bit that is.
 
-pub no_bit : (low : ℕ) (words : List ℕ) → set words 0 (bit_or (slice_index words 0) 0) ≡ marked low window None words
+pub no_bit : (low : ℕ) (words : List ℕ) → set words 0 (bit_or (slice_index words 0) 0) ≡ with_mark low window None words
 no_bit low words = ap (λ n. set words 0 n) (or_zero_r (slice_index words 0)) ∙ set-get_or words 0 0
 
-pub below_bit : (low : ℕ) (m : Mark) (words : List ℕ) → m.txn < low → set words 0 (bit_or (slice_index words 0) 0) ≡ marked low window (Some m) words
+pub below_bit : (low : ℕ) (m : Mark) (words : List ℕ) → m.txn < low → set words 0 (bit_or (slice_index words 0) 0) ≡ with_mark low window (Some m) words
 below_bit low m words lt =
     no_bit low words ∙ sym (ap (λ b. if b then set_bit words (word_at low m.txn m.word) m.bit else words) (ap (λ b. b && nat_lt m.txn (low + window)) (lt-leb low m.txn lt)))
 
-pub past_bit : (low : ℕ) (m : Mark) (words : List ℕ) → low + window ≤ m.txn → set words 0 (bit_or (slice_index words 0) 0) ≡ marked low window (Some m) words
+pub past_bit : (low : ℕ) (m : Mark) (words : List ℕ) → low + window ≤ m.txn → set words 0 (bit_or (slice_index words 0) 0) ≡ with_mark low window (Some m) words
 past_bit low m words le =
     no_bit low words ∙ sym (ap (λ b. if b then set_bit words (word_at low m.txn m.word) m.bit else words) (ap (λ b. nat_le low m.txn && b) (le-ltb m.txn (low + window) le) ∙ off (nat_le low m.txn)))
   where
@@ -126,7 +126,7 @@ past_bit low m words le =
     off false = refl
 
 pub window_bit : (low : ℕ) (m : Mark) (words : List ℕ) (place mask : ℕ) → low ≤ m.txn → m.txn < low + window → place ≡ word_at low m.txn m.word → mask ≡ 2 ^ m.bit
-    → set words place (bit_or (slice_index words place) mask) ≡ marked low window (Some m) words
+    → set words place (bit_or (slice_index words place) mask) ≡ with_mark low window (Some m) words
 window_bit low m words place mask le lt at is =
     ap (λ i. set words i (bit_or (slice_index words i) mask)) at ∙ (ap (λ n. set words (word_at low m.txn m.word) (bit_or (slice_index words (word_at low m.txn m.word)) n)) is
     ∙ sym (ap (λ b. if b then set_bit words (word_at low m.txn m.word) m.bit else words) (in_by low window m.txn (record { least = le; most = lt }))))

@@ -30,7 +30,7 @@ use Rattle.txn_board.specs.declared.words.Word.{Word}
 use Rattle.txn_board.specs.declared.words.Word.TheVariants.{Registered, Decided}
 use Rattle.txn_board.specs.declared.words.OwnStart.{OwnStart}
 use Rattle.txn_board.specs.declared.words.OwnStart.TheVariants as own
-use Rattle.txn_board.specs.Words.{window, IsIn, word_at, as_bit, has_bit, decides, tells}
+use Rattle.txn_board.specs.Words.{window, IsIn, word_at, as_bit, is_bit_set, decides, tells}
 use Rattle.txn_board.specs.Rows.{parts_in, low_in, with_row_by, start_view, loaded}
 use Rattle.txn_board.specs.Rule.{Holds, AllowsTo}
 use Rattle.txn_board.specs.Seen.{decision_by}
@@ -107,9 +107,9 @@ starts_in lists id v place x count number inside at its m =
     go s h false f e more is = absurd (cc is)
     go s h true f e more is =
         let p = m.may.row.part in
-        let t : (nat_lt p 64 && has_bit (slice_index s.words place) p) ≡ true = ap (λ o. bit_found o (slice_index s.words place)) (sym (its m.may.row m.may.one)) ∙ f in
-        let small : p < 64 = ltb-true p 64 (and_l (nat_lt p 64) (has_bit (slice_index s.words place) p) t) in
-        let bit : has_bit (slice_index s.words (word_at (low_in lists) x Registered)) p ≡ true = ap (λ i. has_bit (slice_index s.words i) p) (sym at) ∙ and_r (nat_lt p 64) (has_bit (slice_index s.words place) p) t in
+        let t : (nat_lt p 64 && is_bit_set (slice_index s.words place) p) ≡ true = ap (λ o. bit_found o (slice_index s.words place)) (sym (its m.may.row m.may.one)) ∙ f in
+        let small : p < 64 = ltb-true p 64 (and_l (nat_lt p 64) (is_bit_set (slice_index s.words place) p) t) in
+        let bit : is_bit_set (slice_index s.words (word_at (low_in lists) x Registered)) p ≡ true = ap (λ i. is_bit_set (slice_index s.words i) p) (sym at) ∙ and_r (nat_lt p 64) (is_bit_set (slice_index s.words place) p) t in
         let told : tells (settled_of h.state) (txn x) Registered p ≡ true = bit_true (tells (settled_of h.state) (txn x) Registered p) (ap (λ k. k == 1) (sym (h.words.bits x Registered p inside small)) ∙ bit) in
         (m.may, inside_cross (settled_of h.state) p x count (registers (settled_of h.state) x p m.part told))
 
@@ -154,20 +154,20 @@ decided n c x d law h = decided_along n x d [] c law h
 
 pub starts_marker : (lists : List (List CoreEntry)) (id : ℕ) (v : View) (place x : ℕ) → IsIn (low_in lists) window x → place ≡ word_at (low_in lists) x Decided
     → ((d : Decision) → MayStart (parts_in lists) (marker_where x (Some d)) v)
-    → AllowsTo (Holds lists) id v place (λ n. n) (λ n. loaded place n (start_where (marker_where x (decision_by (has_bit n 0) (has_bit n 1))) v))
+    → AllowsTo (Holds lists) id v place (λ n. n) (λ n. loaded place n (start_where (marker_where x (decision_by (is_bit_set n 0) (is_bit_set n 1))) v))
 starts_marker lists id v place x inside at m =
-    λ s h seat. start_at lists s h id v seat place (marker_where x (decision_by (has_bit (slice_index s.words place) 0) (has_bit (slice_index s.words place) 1)))
-    (λ e more is. go s h (has_bit (slice_index s.words place) 0) (has_bit (slice_index s.words place) 1) refl refl e more is)
+    λ s h seat. start_at lists s h id v seat place (marker_where x (decision_by (is_bit_set (slice_index s.words place) 0) (is_bit_set (slice_index s.words place) 1)))
+    (λ e more is. go s h (is_bit_set (slice_index s.words place) 0) (is_bit_set (slice_index s.words place) 1) refl refl e more is)
   where
-    cross : (s : table.State ℕ View) (h : Holds lists s) (p i : ℕ) (d : Decision) → i < 64 → tells (settled_of h.state) (txn x) Decided i ≡ list_any (decides (txn x) d) (settled_of h.state 0) → has_bit (slice_index s.words place) i ≡ true
+    cross : (s : table.State ℕ View) (h : Holds lists s) (p i : ℕ) (d : Decision) → i < 64 → tells (settled_of h.state) (txn x) Decided i ≡ list_any (decides (txn x) d) (settled_of h.state 0) → is_bit_set (slice_index s.words place) i ≡ true
         → list_all (may_cross (settled_of h.state) p) (marker_where x (Some d)) ≡ true
     cross s h p i d small same bit =
-        let b : has_bit (slice_index s.words (word_at (low_in lists) x Decided)) i ≡ true = ap (λ j. has_bit (slice_index s.words j) i) (sym at) ∙ bit in
+        let b : is_bit_set (slice_index s.words (word_at (low_in lists) x Decided)) i ≡ true = ap (λ j. is_bit_set (slice_index s.words j) i) (sym at) ∙ bit in
         let told : list_any (decides (txn x) d) (settled_of h.state 0) ≡ true = sym same ∙ bit_true (tells (settled_of h.state) (txn x) Decided i) (ap (λ k. k == 1) (sym (h.words.bits x Decided i inside small)) ∙ b) in
         let law = alone_log (parts_in lists) (settled_of h.state 0) (alone_front (parts_in lists) 0 (settled_of h.state 0) (flight_of h.state 0) ((kept lists s h).stands.alone 0)) in
         and_both (is_decision (decision_of (settled_of h.state 0) (txn x)) d) true (decision_test (decision_of (settled_of h.state 0) (txn x)) d (decided (parts_in lists) (settled_of h.state 0) (txn x) d law told)) refl
 
-    go : (s : table.State ℕ View) (h : Holds lists s) (a b : Bool) → has_bit (slice_index s.words place) 0 ≡ a → has_bit (slice_index s.words place) 1 ≡ b → (e : CoreEntry) (more : List CoreEntry) → marker_where x (decision_by a b) ≡ e ∷ more
+    go : (s : table.State ℕ View) (h : Holds lists s) (a b : Bool) → is_bit_set (slice_index s.words place) 0 ≡ a → is_bit_set (slice_index s.words place) 1 ≡ b → (e : CoreEntry) (more : List CoreEntry) → marker_where x (decision_by a b) ≡ e ∷ more
         → (k : MayStart (parts_in lists) (marker_where x (decision_by a b)) v) × (list_all (may_cross (settled_of h.state) k.row.part) (marker_where x (decision_by a b)) ≡ true)
     go s h true b f g e more is = (m Commit, cross s h (m Commit).row.part 0 Commit (omega arith) refl f)
     go s h false true f g e more is = (m Abort, cross s h (m Abort).row.part 1 Abort (omega arith) refl g)

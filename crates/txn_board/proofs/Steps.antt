@@ -23,8 +23,8 @@ use Rattle.txn_board.specs.declared.view.SeatRow.{SeatRow}
 use Rattle.txn_board.specs.declared.view.Load.{Load}
 use Rattle.txn_board.specs.declared.view.View.{View}
 use Rattle.txn_board.specs.declared.words.Mark.{Mark}
-use Rattle.txn_board.specs.Words.{window, is_in, word_at, WordsSay, set_bit, marked}
-use Rattle.txn_board.specs.Rows.{parts_in, list_in, low_in, AreRows, AreApart, loaded}
+use Rattle.txn_board.specs.Words.{window, is_in, word_at, WordsSay, set_bit, with_mark}
+use Rattle.txn_board.specs.Rows.{parts_in, list_in, low_in, AreSeatRows, AreApart, loaded}
 use Rattle.txn_board.specs.Rule.{LoadsHold, Holds, AllowsTo}
 use Rattle.txn_board.proofs.Marks.{in_of, place_within}
 
@@ -79,7 +79,7 @@ or_grows words i m lt place p = go (ℕ_discrete place i)
         (subst (λ k. bit_at (slice_index words i) p ≤ k) (sym (bit_at_or (slice_index words i) m p)) (le_max (bit_at (slice_index words i) p) (bit_at m p))))
     go (no n) = subst (λ k. bit_at (slice_index words place) p ≤ bit_at k p) (sym (get_or-set_other words i place (bit_or (slice_index words i) m) 0 n)) (omega arith)
 
-pub marked_grows : (first count : ℕ) (m : Option Mark) (words : List ℕ) → length words ≡ 3 * count → (place p : ℕ) → bit_at (slice_index words place) p ≤ bit_at (slice_index (marked first count m words) place) p
+pub marked_grows : (first count : ℕ) (m : Option Mark) (words : List ℕ) → length words ≡ 3 * count → (place p : ℕ) → bit_at (slice_index words place) p ≤ bit_at (slice_index (with_mark first count m words) place) p
 marked_grows first count None words size place p = omega arith
 marked_grows first count (Some m) words size place p = go (is_in first count m.txn) refl
   where
@@ -90,7 +90,7 @@ marked_grows first count (Some m) words size place p = go (is_in first count m.t
 -- ---- The rows of all views after one changed.
 
 -- a row of another seat is another part's
-rows_else : (s : CoreState) (owner : ℕ → ℕ) (id j p : ℕ) (x : CoreRow) (rs : List SeatRow) → owner p ≡ id → j ≢ id → AreRows s owner j rs → AreRows (with_row s p x) owner j rs
+rows_else : (s : CoreState) (owner : ℕ → ℕ) (id j p : ℕ) (x : CoreRow) (rs : List SeatRow) → owner p ≡ id → j ≢ id → AreSeatRows s owner j rs → AreSeatRows (with_row s p x) owner j rs
 rows_else s owner id j p x [] mine apart f = tt
 rows_else s owner id j p x (r ∷ rs) mine apart f =
     let m : r.part ≢ p = λ e. apart (sym f.0.0 ∙ (ap owner e ∙ mine)) in
@@ -115,7 +115,7 @@ module _ (lists : List (List CoreEntry)) (s : table.State ℕ View) (h : Holds l
         steps = h.steps;
         reached = h.reached;
         words = subst (λ ws. WordsSay (low_in lists) window ws (settled_of h.state)) (sym same) h.words;
-        rows = views_set (λ j u. AreRows h.state h.owner j u.rows) s.views id next (h.rows id v seat) (λ j u away e. h.rows j u e);
+        rows = views_set (λ j u. AreSeatRows h.state h.owner j u.rows) s.views id next (h.rows id v seat) (λ j u away e. h.rows j u e);
         apart = views_set (λ j u. AreApart u.rows) s.views id next (h.apart id v seat) (λ j u away e. h.apart j u e);
         loads = subst (λ ws. (j : ℕ) (u : View) → get_elem? (set s.views id next) j ≡ some u → LoadsHold ws u.loads) (sym same)
             (views_set (λ j u. LoadsHold s.words u.loads) s.views id next (loads_more s.words v.loads i (h.loads id v seat)) (λ j u away e. h.loads j u e));
@@ -129,7 +129,7 @@ module _ (lists : List (List CoreEntry)) (s : table.State ℕ View) (h : Holds l
 
   module _ (r : SeatRow) (is : v.rows ≡ r ∷ []) where
     pub mine : (h.owner r.part ≡ id) × (r.part < length h.state.rows) × (row_of h.state r.part ≡ r.row)
-    mine = (subst (λ l. AreRows h.state h.owner id l) is (h.rows id v seat)).0
+    mine = (subst (λ l. AreSeatRows h.state h.owner id l) is (h.rows id v seat)).0
 
     pub row_changes : (st : CoreStep) → can (parts_in lists) h.state st ≡ true → (row : CoreRow) → core_after h.state st ≡ with_row h.state r.part row
         → (next : View) → next.rows ≡ record { part = r.part; row = row } ∷ [] → (words : List ℕ) → WordsSay (low_in lists) window words (settled_of (with_row h.state r.part row))
@@ -143,7 +143,7 @@ module _ (lists : List (List CoreEntry)) (s : table.State ℕ View) (h : Holds l
           steps = h.steps ++ st ∷ [];
           reached = reached_more lists h.steps h.state st h.reached may ∙ becomes;
           words = say;
-          rows = views_set (λ j u. AreRows state' h.owner j u.rows) s.views id next here (λ j u away e. rows_else h.state h.owner id j r.part row u.rows mine.0 away (h.rows j u e));
+          rows = views_set (λ j u. AreSeatRows state' h.owner j u.rows) s.views id next here (λ j u away e. rows_else h.state h.owner id j r.part row u.rows mine.0 away (h.rows j u e));
           apart = views_set (λ j u. AreApart u.rows) s.views id next (subst AreApart (sym rows') (tt, tt)) (λ j u away e. h.apart j u e);
           loads = views_set (λ j u. LoadsHold words u.loads) s.views id next new (λ j u away e. old u.loads (h.loads j u e));
         }
@@ -151,9 +151,9 @@ module _ (lists : List (List CoreEntry)) (s : table.State ℕ View) (h : Holds l
         state' : CoreState
         state' = with_row h.state r.part row
 
-        here : AreRows state' h.owner id next.rows
+        here : AreSeatRows state' h.owner id next.rows
         here =
-            subst (λ l. AreRows state' h.owner id l) (sym rows')
+            subst (λ l. AreSeatRows state' h.owner id l) (sym rows')
             ((mine.0, subst (λ n. r.part < n) (sym (length-set h.state.rows r.part row)) mine.1, get_or-set_same h.state.rows r.part row no_row mine.1), tt)
 
     -- the settled list of the row is as it was, and the word i was loaded

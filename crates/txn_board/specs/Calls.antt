@@ -19,7 +19,7 @@ use Rattle.txn_board.specs.declared.words.Start.TheVariants as begin
 use Rattle.txn_board.specs.declared.words.Word.{Word}
 use Rattle.txn_board.specs.Seen.{decision_by}
 use Rattle.std.specs.List.{list_any}
-use Rattle.txn_board.specs.Words.{window, is_in, word_at, mark_of, has_bit, sets}
+use Rattle.txn_board.specs.Words.{window, is_in, word_at, mark_of, is_bit_set, sets}
 use Rattle.txn_board.specs.Rows.{low_in, start_view}
 
 -- The seat has the row of this part alone, and this entry is the first in flight.
@@ -103,7 +103,7 @@ start_where (e ∷ es) v = start_view (e ∷ es) v
 -- The word has the bit of the seat's part.
 abbrev pub bit_found : Option ℕ → ℕ → Bool
 bit_found None n = false
-bit_found (Some part) n = nat_lt part 64 && has_bit n part
+bit_found (Some part) n = nat_lt part 64 && is_bit_set n part
 
 abbrev pub inside_where : Bool → ℕ → ℕ → List CoreEntry
 inside_where found x count = if found then replicate count (core.Inside (txn x)) else []
@@ -117,7 +117,7 @@ marker_where x (Some d) = core.Marker (txn x) d ∷ []
 -- From the part p on, of so many, the first whose bit is in the one word and not in the other.
 abbrev pub missing_from : ℕ → ℕ → ℕ → ℕ → Option ℕ
 missing_from reg done zero p = None
-missing_from reg done (suc left) p = if has_bit reg p && not (has_bit done p) then Some p else missing_from reg done left (p + 1)
+missing_from reg done (suc left) p = if is_bit_set reg p && not (is_bit_set done p) then Some p else missing_from reg done left (p + 1)
 
 -- The least registered part that isn't done.
 abbrev pub first_missing : ℕ → ℕ → Option ℕ
@@ -147,14 +147,14 @@ pub record MayClose (n x : ℕ) (v : View) : Type 0 where
 
 -- A word of registered parts is that of the coordinator's row.
 abbrev pub IsOfRow : ℕ → ℕ → View → Type 0
-IsOfRow reg x v = (r : SeatRow) → v.rows ≡ r ∷ [] → r.part ≡ 0 → (p : ℕ) → p < 64 → has_bit reg p ≡ list_any (sets Registered p (txn x)) r.row.settled
+IsOfRow reg x v = (r : SeatRow) → v.rows ≡ r ∷ [] → r.part ≡ 0 → (p : ℕ) → p < 64 → is_bit_set reg p ≡ list_any (sets Registered p (txn x)) r.row.settled
 
 -- What starts by the value of the word that was loaded: messages or a hold where the part's bit is set; a marker where there
 -- is a decision; a closing where each registered part is done.
 abbrev pub starts_of : Start → View → ℕ → List CoreEntry
 starts_of (begin.Own own) v n = own_entries own
 starts_of (begin.Inside x count part) v n = inside_where (bit_found part n) x count
-starts_of (begin.Marker x) v n = marker_where x (decision_by (has_bit n 0) (has_bit n 1))
+starts_of (begin.Marker x) v n = marker_where x (decision_by (is_bit_set n 0) (is_bit_set n 1))
 starts_of (begin.Close x reg) v n = closing_where (first_missing reg n) v.rows x
 
 -- The place of the word of x that a start loads: word 0 where x isn't in the window.

@@ -21,9 +21,9 @@ abbrev pub low_in : List (List CoreEntry) → ℕ
 low_in lists = low_of_log (list_in lists 0)
 
 -- Each of these rows is the core's row of its part, and the part is this seat's.
-abbrev pub AreRows : CoreState → (ℕ → ℕ) → ℕ → List SeatRow → Type 0
-AreRows s owner id [] = Unit {0}
-AreRows s owner id (r ∷ rs) = ((owner r.part ≡ id) × (r.part < length s.rows) × (row_of s r.part ≡ r.row)) × AreRows s owner id rs
+abbrev pub AreSeatRows : CoreState → (ℕ → ℕ) → ℕ → List SeatRow → Type 0
+AreSeatRows s owner id [] = Unit {0}
+AreSeatRows s owner id (r ∷ rs) = ((owner r.part ≡ id) × (r.part < length s.rows) × (row_of s r.part ≡ r.row)) × AreSeatRows s owner id rs
 
 -- The part has none of these rows.
 abbrev pub NoneOf : ℕ → List SeatRow → Type 0
@@ -36,9 +36,9 @@ AreApart [] = Unit {0}
 AreApart (r ∷ rs) = NoneOf r.part rs × AreApart rs
 
 -- The part has one of these rows.
-abbrev pub HasRow : ℕ → List SeatRow → Type 0
-HasRow p [] = ⊥
-HasRow p (r ∷ rs) = (p ≡ r.part) ⊎ HasRow p rs
+abbrev pub HasSeatRow : ℕ → List SeatRow → Type 0
+HasSeatRow p [] = ⊥
+HasSeatRow p (r ∷ rs) = (p ≡ r.part) ⊎ HasSeatRow p rs
 
 -- The rows are those of the parts from p on, in order.
 abbrev pub AreFrom : ℕ → List SeatRow → Type 0
@@ -85,8 +85,8 @@ rows_from p [] = []
 rows_from p (l ∷ ls) = record { part = p; row = resting_row l } ∷ rows_from (suc p) ls
 
 -- The view of the seat that has every part's row.
-abbrev pub first_view : List (List CoreEntry) → View
-first_view lists = record { rows = rows_from 0 lists; loads = [] }
+abbrev pub opening_view : List (List CoreEntry) → View
+opening_view lists = record { rows = rows_from 0 lists; loads = [] }
 
 abbrev pub rest_rows : List SeatRow → List SeatRow
 rest_rows [] = []

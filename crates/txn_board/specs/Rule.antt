@@ -11,7 +11,7 @@ use Rattle.txn_core.specs.Kept.{resting_core}
 use Rattle.txn_board.specs.declared.view.Load.{Load}
 use Rattle.txn_board.specs.declared.view.View.{View}
 use Rattle.txn_board.specs.Words.{window, WordsSay, StillHolds}
-use Rattle.txn_board.specs.Rows.{parts_in, low_in, list_in, AreRows, AreApart}
+use Rattle.txn_board.specs.Rows.{parts_in, low_in, list_in, AreSeatRows, AreApart}
 
 -- Each of these loads still holds.
 abbrev pub LoadsHold : List ℕ → List Load → Type 0
@@ -19,7 +19,7 @@ LoadsHold words [] = Unit {0}
 LoadsHold words (l ∷ ls) = StillHolds words l.place l.value × LoadsHold words ls
 
 -- Lists that a board may be opened with: there are at most 62 beside the coordinator's, and they are lawful together.
-pub record MayOpen (lists : List (List CoreEntry)) : Type 0 where
+pub record CanOpenBoard (lists : List (List CoreEntry)) : Type 0 where
   pub few : parts_in lists ≤ 62
   pub lawful : AreLawful (parts_in lists) (list_in lists)
 
@@ -28,11 +28,11 @@ pub record MayOpen (lists : List (List CoreEntry)) : Type 0 where
 pub record Holds (lists : List (List CoreEntry)) (s : table.State ℕ View) : Type 0 where
   pub state : CoreState
   pub owner : ℕ → ℕ
-  pub may : MayOpen lists
+  pub may : CanOpenBoard lists
   pub steps : List CoreStep
   pub reached : run (parts_in lists) steps (resting_core lists) ≡ state
   pub words : WordsSay (low_in lists) window s.words (settled_of state)
-  pub rows : (id : ℕ) (v : View) → get_elem? s.views id ≡ some v → AreRows state owner id v.rows
+  pub rows : (id : ℕ) (v : View) → get_elem? s.views id ≡ some v → AreSeatRows state owner id v.rows
   pub apart : (id : ℕ) (v : View) → get_elem? s.views id ≡ some v → AreApart v.rows
   pub loads : (id : ℕ) (v : View) → get_elem? s.views id ≡ some v → LoadsHold s.words v.loads
 

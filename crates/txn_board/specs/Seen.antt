@@ -10,7 +10,7 @@ use Rattle.txn_board.specs.declared.view.Load.{Load}
 use Rattle.txn_board.specs.declared.view.View.{View}
 use Rattle.txn_board.specs.declared.words.Word.{Word}
 use Rattle.txn_board.specs.declared.words.Word.TheVariants.{Registered, Decided, Done}
-use Rattle.txn_board.specs.Words.{window, is_in, word_at, has_bit, tells}
+use Rattle.txn_board.specs.Words.{window, is_in, word_at, is_bit_set, tells}
 use Rattle.txn_board.specs.Rows.{list_in, low_in, with_loads}
 
 abbrev pub place_of : Load → ℕ
@@ -24,7 +24,7 @@ last_value before (l ∷ ls) place = last_value (if l.place == place then l.valu
 -- By these loads, the bit p of this word of the transaction x. Below the low watermark the lists of the opening say it; a
 -- word that wasn't loaded has no bit, and so has one past the window.
 abbrev pub bit_seen : List (List CoreEntry) → List Load → ℕ → Word → ℕ → Bool
-bit_seen lists loads x w p = if nat_lt x (low_in lists) then tells (list_in lists) (txn x) w p else has_bit (last_value 0 loads (word_at (low_in lists) x w)) p
+bit_seen lists loads x w p = if nat_lt x (low_in lists) then tells (list_in lists) (txn x) w p else is_bit_set (last_value 0 loads (word_at (low_in lists) x w)) p
 
 -- The status of a transaction, by whether it is begun, decided by a commit, by an abort, and closed.
 abbrev pub status_by : Bool → Bool → Bool → Bool → Option Status
@@ -55,8 +55,8 @@ words_of (Some Aborting) = Registered ∷ Decided ∷ Done ∷ []
 words_of (Some Aborted) = Registered ∷ Decided ∷ Done ∷ []
 
 -- The places of these words of x, in order, where x is in the window; it has none elsewhere.
-abbrev pub places_of : List (List CoreEntry) → ℕ → List Word → List ℕ
-places_of lists x ws = if is_in (low_in lists) window x then map (word_at (low_in lists) x) ws else []
+abbrev pub word_places : List (List CoreEntry) → ℕ → List Word → List ℕ
+word_places lists x ws = if is_in (low_in lists) window x then map (word_at (low_in lists) x) ws else []
 
 -- The loads of one word of x with this value.
 abbrev pub looked : List (List CoreEntry) → ℕ → Word → ℕ → List Load
@@ -65,4 +65,4 @@ looked lists x w n = if is_in (low_in lists) window x then record { place = word
 -- A call loaded just these words of x: the view has those loads more, and nothing else changed.
 pub record Reads (lists : List (List CoreEntry)) (x : ℕ) (ws : List Word) (loads : List Load) (before now : View) : Type 0 where
   pub view : now ≡ with_loads loads before
-  pub places : map place_of loads ≡ places_of lists x ws
+  pub places : map place_of loads ≡ word_places lists x ws

@@ -43,8 +43,8 @@ word_at first x w = 3 * (x - first) + offset w
 abbrev pub as_bit : Bool → ℕ
 as_bit b = if b then 1 else 0
 
-abbrev pub has_bit : ℕ → ℕ → Bool
-has_bit n p = bit_at n p == 1
+abbrev pub is_bit_set : ℕ → ℕ → Bool
+is_bit_set n p = bit_at n p == 1
 
 -- Of x, the entry is the decision d, a closing, a marker.
 abbrev pub decides : TxnId → Decision → CoreEntry → Bool
@@ -105,9 +105,9 @@ mark_of p (core.Aborted x) = mark_where (p == 0) x Done 0
 abbrev pub set_bit : List ℕ → ℕ → ℕ → List ℕ
 set_bit words place p = slice_set words place (bit_or (slice_index words place) (2 ^ p))
 
-abbrev pub marked : ℕ → ℕ → Option Mark → List ℕ → List ℕ
-marked first count None words = words
-marked first count (Some m) words = if is_in first count m.txn then set_bit words (word_at first m.txn m.word) m.bit else words
+abbrev pub with_mark : ℕ → ℕ → Option Mark → List ℕ → List ℕ
+with_mark first count None words = words
+with_mark first count (Some m) words = if is_in first count m.txn then set_bit words (word_at first m.txn m.word) m.bit else words
 
 -- The lists where that of the part p has these entries more.
 abbrev pub with_more : (ℕ → List CoreEntry) → ℕ → List CoreEntry → ℕ → List CoreEntry

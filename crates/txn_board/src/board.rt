@@ -6,14 +6,14 @@ ghost use Rattle.txn_core.specs.Together.{AreLawful};
 ghost use Rattle.txn_board.specs.declared.view.Load.{Load};
 ghost use Rattle.txn_board.specs.declared.words.Word.TheVariants.{Registered, Decided, Done};
 ghost use Rattle.txn_board.specs.Words.{window, WordsSay, as_bit, tells};
-ghost use Rattle.txn_board.specs.Rows.{parts_in, list_in, low_in, first_view, rest_view, dealt_view, joined_view, kept_rows, HasRow, AreFrom, IsNumberOf, with_loads, spent_view};
+ghost use Rattle.txn_board.specs.Rows.{parts_in, list_in, low_in, opening_view, rest_view, dealt_view, joined_view, kept_rows, HasSeatRow, AreFrom, IsNumberOf, with_loads, spent_view};
 ghost use Rattle.txn_board.specs.Seen.{looked, Reads, bit_seen, status_seen, decision_seen, words_of};
 ghost use Rattle.std.specs.Int.{bit_at};
 ghost use Rattle.std.specs.Option.{option_or};
 
 use crate::fill::{WINDOW, words_of_lists};
 use crate::view::View;
-use crate::words::{Word, has_bit, offset_of};
+use crate::words::{Word, is_bit_set, offset_of};
 use atomic_table::{Join, Play, Seat, Split, Table, TableRule};
 use std::alloc::{AllocError, Global};
 use std::marker::{Brand, Model, PhantomData};
@@ -39,11 +39,11 @@ pub struct Law<T: Promise> {
 
 impl<T: Promise> TableRule<u8, View, Skeletons> for Law<T> {
     ghost use Rattle.txn_board.specs.Rule.{Holds};
-    ghost use Rattle.txn_board.specs.Rows.{first_view};
+    ghost use Rattle.txn_board.specs.Rows.{opening_view};
 
     ghost holds = { λ lists s. T.made → Holds lists s };
 
-    ghost first = { first_view };
+    ghost first = { opening_view };
 }
 
 /// A plain load.
@@ -107,7 +107,7 @@ pub struct Opened<T: Promise> {
     pub ghost seat_fits: { seat.table_id ≡ table.shared.table_id },
     pub ghost count: { table.shared.table_id.words ≡ 3 * window },
     pub ghost no_slot: { table.shared.table_id.slots ≡ 0 },
-    pub ghost seat_is: { seat.me ≡ (first_view table.shared.key, []) },
+    pub ghost seat_is: { seat.me ≡ (opening_view table.shared.key, []) },
     pub ghost few: { length table.shared.key ≤ 63 },
     pub ghost low_is: { low ≡ low_in table.shared.key },
     pub ghost fixed_says: { WordsSay 0 low fixed.items (list_in table.shared.key) },
@@ -146,7 +146,7 @@ impl<T: Promise> Opened<T> {
     pub fn named<N: Naming>(self) -> (Board<T, N>, Seats<N>)
         requires table { self.table.shared.table_id ≡ N.table }
         requires lists { self.table.shared.key ≡ N.lists }
-        ensures { result.1 ≡ first_view N.lists }
+        ensures { result.1 ≡ opening_view N.lists }
     {
         let Opened {
             table,
@@ -301,7 +301,7 @@ impl<T: Promise, N: Naming> Board<T, N> {
     /// Ends the board. By the rows of a seat that has every part's, the lists are lawful together, whichever parts keep what
     /// they have in flight.
     pub fn close_with(self, seat: BoardSeat<N>)
-        requires { (p : ℕ) → p < length N.lists → HasRow p seat.rows }
+        requires { (p : ℕ) → p < length N.lists → HasSeatRow p seat.rows }
         ensures { T.made → (stays : ℕ → Bool) → AreLawful (parts_in N.lists) (kept_rows seat.rows stays) }
     {
         let Board {

@@ -2,10 +2,10 @@
 ghost use Rattle.std.specs.Prelude.{◌≡◌, ◌≤◌, ◌<◌, ◌*◌, ◌+◌, ◌^◌, ◌-◌, ℕ, List, [], ◌∷◌, length, map, slice_index_or, IfOk, drop, take};
 ghost use Rattle.txn_base.specs.declared.core_entry.CoreEntry.{CoreEntry};
 ghost use Rattle.txn_model.specs.Coord.{count_new};
-ghost use Rattle.txn_board.specs.Words.{window, WordsSay, mark_of, marked, with_more, low_of_log};
+ghost use Rattle.txn_board.specs.Words.{window, WordsSay, mark_of, with_mark, with_more, low_of_log};
 ghost use Rattle.txn_board.specs.Rows.{list_in};
 
-use crate::words::{has_bit, mark_of, mask_of, offset_of};
+use crate::words::{is_bit_set, mark_of, mask_of, offset_of};
 use std::alloc::{AllocError, Global};
 use txn_core::{CoreEntry, Skeleton};
 
@@ -15,7 +15,7 @@ pub const WINDOW: u64 = 65_536;
 /// Sets the bit of an entry, in the words of the first so many transactions.
 fn note(words: &mut [u64], count: u64, part: u32, entry: CoreEntry)
     requires { length words.old ≡ 3 * count }
-    ensures { words.new ≡ marked 0 count (mark_of part entry) words.old }
+    ensures { words.new ≡ with_mark 0 count (mark_of part entry) words.old }
 {
     let Some(mark) = mark_of(part, entry) else {
         return;
@@ -75,7 +75,7 @@ pub(crate) fn low_watermark(words: &[u64], begun: u64) -> u64
     ensures most { result ≤ begun }
 {
     let mut low = 0;
-    while low < begun && has_bit(words[(3 * low + 2) as usize], 0) {
+    while low < begun && is_bit_set(words[(3 * low + 2) as usize], 0) {
         low += 1;
     }
     low

@@ -2,11 +2,11 @@
 ghost use Rattle.std.specs.Prelude.{◌≡◌, ◌<◌, nat_le, nat_lt, ◌&&◌, true, ℕ, List, [], ◌∷◌};
 ghost use Rattle.txn_board.specs.declared.view.Load.{Load};
 ghost use Rattle.txn_board.specs.declared.words.Word.TheVariants.{Registered, Decided, Done};
-ghost use Rattle.txn_board.specs.Words.{has_bit};
+ghost use Rattle.txn_board.specs.Words.{is_bit_set};
 ghost use Rattle.txn_board.specs.Seen.{Reads, bit_seen, status_by, status_seen, decision_by, decision_seen, words_of};
 
 use crate::board::{Board, BoardSeat, Naming, Promise};
-use crate::words::{Word, has_bit};
+use crate::words::{Word, is_bit_set};
 use txn_base::{Decision, Status};
 
 fn status_told(commit: bool, abort: bool, closed: bool) -> Option<Status>
@@ -46,17 +46,17 @@ impl<T: Promise, N: Naming> Board<T, N> {
         ensures { (loads : List Load) × Reads N.lists txn (words_of result) loads seat.old seat.new × (result ≡ status_seen N.lists loads txn) }
     {
         let reg = self.look(seat, txn, Word::Registered);
-        if !has_bit(reg, 0) {
+        if !is_bit_set(reg, 0) {
             return None;
         }
         let dec = self.look(seat, txn, Word::Decided);
-        let commit = has_bit(dec, 0);
-        let abort = has_bit(dec, 1);
+        let commit = is_bit_set(dec, 0);
+        let abort = is_bit_set(dec, 1);
         if !commit && !abort {
             return Some(Status::Open);
         }
         let done = self.look(seat, txn, Word::Done);
-        status_told(commit, abort, has_bit(done, 0))
+        status_told(commit, abort, is_bit_set(done, 0))
     }
 
     /// The decision of a transaction; none where there is none yet, and past the window.
@@ -64,7 +64,7 @@ impl<T: Promise, N: Naming> Board<T, N> {
         ensures { (loads : List Load) × Reads N.lists txn (Decided ∷ []) loads seat.old seat.new × (result ≡ decision_seen N.lists loads txn) }
     {
         let dec = self.look(seat, txn, Word::Decided);
-        decision_told(has_bit(dec, 0), has_bit(dec, 1))
+        decision_told(is_bit_set(dec, 0), is_bit_set(dec, 1))
     }
 
     /// Whether a part, from 1 to 63, is one of a transaction's.
@@ -72,12 +72,12 @@ impl<T: Promise, N: Naming> Board<T, N> {
         ensures { (loads : List Load) × Reads N.lists txn (Registered ∷ []) loads seat.old seat.new × (result ≡ (nat_le 1 part && nat_lt part 64 && bit_seen N.lists loads txn Registered part)) }
     {
         let reg = self.look(seat, txn, Word::Registered);
-        part >= 1 && part < 64 && has_bit(reg, part)
+        part >= 1 && part < 64 && is_bit_set(reg, part)
     }
 
     /// Which parts have a marker of a transaction, bit by bit, and in bit 0 whether it is closed.
     pub fn done(&self, seat: &mut BoardSeat<N>, txn: u64) -> u64
-        ensures { (loads : List Load) × Reads N.lists txn (Done ∷ []) loads seat.old seat.new × ((p : ℕ) → p < 64 → has_bit result p ≡ bit_seen N.lists loads txn Done p) }
+        ensures { (loads : List Load) × Reads N.lists txn (Done ∷ []) loads seat.old seat.new × ((p : ℕ) → p < 64 → is_bit_set result p ≡ bit_seen N.lists loads txn Done p) }
     {
         self.look(seat, txn, Word::Done)
     }

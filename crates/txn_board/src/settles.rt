@@ -4,7 +4,7 @@ ghost use Rattle.std.specs.Int.Bits.{bit_or};
 ghost use Rattle.txn_model.specs.Coord.{decision_skeleton};
 ghost use Rattle.txn_model.specs.Deadlines.{txn as txn_of};
 ghost use Rattle.txn_board.specs.declared.words.Mark.{Mark};
-ghost use Rattle.txn_board.specs.Words.{window, marked};
+ghost use Rattle.txn_board.specs.Words.{window, with_mark};
 ghost use Rattle.txn_board.specs.Rows.{low_in, settle_view, drop_view, loaded};
 ghost use Rattle.txn_board.specs.Calls.{IsSettling, IsSetting, IsSettlingOwn, IsEnding, MayDrop, reg_entry, ending_mark};
 
@@ -50,7 +50,7 @@ impl<T: Promise, N: Naming> Board<T, N> {
     fn bit_of(&self, mark: Option<Mark>) -> (usize, u64)
         requires { IfSome mark (λ m. m.bit < 64) }
         ensures place { result.0 < 3 * window }
-        ensures bits { (words : List ℕ) → length words ≡ 3 * window → slice_set words result.0 (bit_or (slice_index words result.0) result.1) ≡ marked (low_in N.lists) window mark words }
+        ensures bits { (words : List ℕ) → length words ≡ 3 * window → slice_set words result.0 (bit_or (slice_index words result.0) result.1) ≡ with_mark (low_in N.lists) window mark words }
     {
         let Some(mark) = mark else {
             return (0, 0);

@@ -1,7 +1,7 @@
 //! The steps at which a part starts entries.
 ghost use Rattle.std.specs.Prelude.{◌≡◌, ◌<◌, ◌≤◌, ◌*◌, ◌∷◌, [], ℕ, Some};
 ghost use Rattle.txn_board.specs.declared.words.Word.TheVariants.{Registered, Decided, Done};
-ghost use Rattle.txn_board.specs.Words.{window, IsIn, has_bit};
+ghost use Rattle.txn_board.specs.Words.{window, IsIn, is_bit_set};
 ghost use Rattle.txn_board.specs.Rows.{parts_in, low_in, start_view, loaded};
 ghost use Rattle.txn_board.specs.Rule.{Holds, AllowsTo};
 ghost use Rattle.txn_board.specs.Seen.{decision_by};
@@ -14,7 +14,7 @@ use crate::board::{Board, BoardSeat, Naming, Promise};
 use crate::fill::WINDOW;
 use crate::readers::decision_told;
 use crate::view::View;
-use crate::words::{OwnStart, Start, Word, has_bit, offset_of};
+use crate::words::{OwnStart, Start, Word, is_bit_set, offset_of};
 use atomic_table::Play;
 use std::marker::{Brand, PhantomData};
 use txn_base::Decision;
@@ -65,7 +65,7 @@ fn found(part: Option<u32>, word: u64) -> bool
     ensures { result ≡ bit_found part word }
 {
     match part {
-        Some(bit) => bit < 64 && has_bit(word, bit),
+        Some(bit) => bit < 64 && is_bit_set(word, bit),
         None => false,
     }
 }
@@ -121,11 +121,11 @@ impl<T: Promise, N: Naming> Board<T, N> {
     pub fn start_marker(&self, seat: &mut BoardSeat<N>, txn: u64) -> Option<Decision>
         requires window { T.made → IsIn (low_in N.lists) window txn }
         requires row { T.made → (d : Decision) → MayStart (parts_in N.lists) (marker_where txn (Some d)) seat.old }
-        ensures { (n : ℕ) × (result ≡ decision_by (has_bit n 0) (has_bit n 1)) × (seat.new ≡ loaded (start_place N.lists txn Decided) n (start_where (marker_where txn result) seat.old)) }
+        ensures { (n : ℕ) × (result ≡ decision_by (is_bit_set n 0) (is_bit_set n 1)) × (seat.new ≡ loaded (start_place N.lists txn Decided) n (start_where (marker_where txn result) seat.old)) }
     {
         let place = self.place(txn, Word::Decided);
         let dec = self.begin::<Brand>(seat, place, Start::Marker { txn });
-        decision_told(has_bit(dec, 0), has_bit(dec, 1))
+        decision_told(is_bit_set(dec, 0), is_bit_set(dec, 1))
     }
 
     /// The coordinator starts the closing of a transaction, where each of its parts has the marker. The error is the least part
@@ -155,7 +155,7 @@ fn missing_part(reg: u64, done: u64) -> Option<u32>
 {
     let mut part = 1;
     while part < 64 {
-        if has_bit(reg, part) && !has_bit(done, part) {
+        if is_bit_set(reg, part) && !is_bit_set(done, part) {
             return Some(part);
         }
         part += 1;

@@ -1,6 +1,6 @@
 //! What the words say, and which bit of them an entry sets.
 ghost use Rattle.std.specs.Prelude.{◌≡◌, ◌<◌, ◌^◌, true, IfSome};
-ghost use Rattle.txn_board.specs.Words.{mark_of, mark_where, offset, has_bit};
+ghost use Rattle.txn_board.specs.Words.{mark_of, mark_where, offset, is_bit_set};
 
 use txn_base::{CoreEntry, Decision, TxnId};
 
@@ -109,9 +109,9 @@ pub(crate) fn mask_of(bit: u32) -> u64
 }
 
 /// Whether a word has this bit.
-pub(crate) fn has_bit(word: u64, bit: u32) -> bool
+pub(crate) fn is_bit_set(word: u64, bit: u32) -> bool
     requires { bit < 64 }
-    ensures { result ≡ has_bit word bit }
+    ensures { result ≡ is_bit_set word bit }
 {
     (word >> bit) & 1 == 1
 }

@@ -51,7 +51,7 @@ SameEntries old new = (id : FileId) → file_entries new id ≡ file_entries old
 abbrev pub HasEntry : FileId → Entry → MemDisk → MemDisk → Type 0
 HasEntry file entry old new = (id : FileId) → file_entries new id ≡ updated file entry (file_entries old) id
 
--- A call of this kind on this file was counted, succeeded only where it isn't one of those that fail, and counted 1 the
+-- A call of this kind on this file was counted, succeeded only where it isn't one of those that fail, and raised the
 -- count and that of the part by one where it failed, and none where it succeeded.
 pub record IsCounted {T E : Type 0} (op : Op) (file : FileId) (result : Result T E) (old new : MemDisk) : Type 0 where
   pub waits : waits_of new ≡ counted_at file op (waits_of old)

@@ -9,16 +9,16 @@ loop-low-preserved c =
     let lt : k < c.args.begun = search rules in (
       omega (arith, lt),
       λ lists count fit say begun.
-          sym (low_goes (has_closing (lists 0)) c.args.begun k lt (sym (closed_bit count c.args.words.now lists k say (omega (arith, lt, fit))) ∙ sym c.has_bit.ensures ∙ c.if-has_bit.true))
+          sym (low_goes (has_closing (lists 0)) c.args.begun k lt (sym (closed_bit count c.args.words.now lists k say (omega (arith, lt, fit))) ∙ sym c.is_bit_set.ensures ∙ c.if-is_bit_set.true))
           ∙ c.loop-low.invariant.1 lists count fit say begun,
     )
 
-pub returns-else-has_bit-clause-least : goal.returns-else-has_bit-clause-least
-returns-else-has_bit-clause-least c =
+pub returns-else-is_bit_set-clause-least : goal.returns-else-is_bit_set-clause-least
+returns-else-is_bit_set-clause-least c =
     let k = c.loop-low.low in
     let lt : k < c.args.begun = search rules in
     λ lists count fit say begun.
-    sym (low_stops (has_closing (lists 0)) c.args.begun k lt (sym (closed_bit count c.args.words.now lists k say (omega (arith, lt, fit))) ∙ sym c.has_bit.ensures ∙ c.if-has_bit.false))
+    sym (low_stops (has_closing (lists 0)) c.args.begun k lt (sym (closed_bit count c.args.words.now lists k say (omega (arith, lt, fit))) ∙ sym c.is_bit_set.ensures ∙ c.if-is_bit_set.false))
     ∙ c.loop-low.invariant.1 lists count fit say begun
 
 pub returns-after-loop-low-clause-least : goal.returns-after-loop-low-clause-least

@@ -1,7 +1,7 @@
 use Rattle.std.proofs.Common.{rules, ◌≡◌, ◌≤◌, ◌<◌, ◌+◌, length, take, get_or, sym, ◌∙◌, ap, arith, subst}
 use Rattle.std.proofs.Math.Seq.{take-length}
 use Rattle.txn_base.specs.declared.core_entry.CoreEntry.TheVariants as core
-use Rattle.txn_board.specs.Words.{WordsSay, mark_of, marked, with_more}
+use Rattle.txn_board.specs.Words.{WordsSay, mark_of, with_mark, with_more}
 use Rattle.txn_board.proofs.Filling.{note_step}
 use Rattle.txn_board.proofs.fill.note_list.Goals as goal
 
@@ -10,7 +10,7 @@ loop-at-preserved c =
     let k = c.loop-at.at in
     let es = c.args.entries.now in
     let lt : k < length es = search rules in
-    let is : c.note.new.words ≡ marked 0 c.args.count (mark_of c.args.part (get_or es k core.Plain)) c.loop-at.words = search rules in (
+    let is : c.note.new.words ≡ with_mark 0 c.args.count (mark_of c.args.part (get_or es k core.Plain)) c.loop-at.words = search rules in (
       search rules,
       omega (arith, lt),
       λ lists h.

@@ -148,4 +148,3 @@ returns-else-end-sent-clause-found g c =
     let whole : g.D.Disk.tells → IsFrameThere c.args.end c.args.sent (g.D.Disk.seen c.args.disk.now c.args.file) =
     λ told. subst (λ (f : Files). IsFrameThere c.args.end c.args.sent (f c.args.file)) same (c.in_ok-is_whole.ensures.whole told c.if-not-branch.false) in
     λ told. read_kept s c.args.end c.args.sent c.requires.ends c.requires.in_flight c.requires.sent (g.D.Disk.seen c.args.disk.now s.key) (c.requires.backed.each _ (g.met.D.Disk.seen_is_image c.args.disk.now told)) (subst (λ (x : List ℕ). IsFrameThere c.args.end c.args.sent x) (ap (g.D.Disk.seen c.args.disk.now) c.requires.file) (whole told))
-

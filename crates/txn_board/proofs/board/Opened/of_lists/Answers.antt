@@ -1,7 +1,7 @@
 use Rattle.std.proofs.Common.{◌≡◌, ◌≤◌, ◌*◌, List, [], take, drop, sym, ap, ◌∙◌, arith, subst, length}
 use Rattle.txn_base.specs.declared.core_entry.CoreEntry.{CoreEntry}
 use Rattle.txn_board.specs.Words.{window, WordsSay}
-use Rattle.txn_board.specs.Rows.{list_in, low_in, first_view}
+use Rattle.txn_board.specs.Rows.{list_in, low_in, opening_view}
 use Rattle.txn_board.proofs.Filling.{cut, front}
 use Rattle.txn_board.proofs.Seating.{opens}
 use Rattle.txn_board.proofs.board.Opened.of_lists.Goals as goal
@@ -36,7 +36,7 @@ invariant_of-result g c =
       seat_fits = e.2;
       count = e.0 ∙ (ap length is ∙ (cut says.0 c.in_ok-fixed.low window all (list_in c.as_slice.result.now) says.1 says.2).size);
       no_slot = e.1;
-      seat_is = e.4 ∙ ap (λ (k : List (List CoreEntry)). (first_view k, [])) key;
+      seat_is = e.4 ∙ ap (λ (k : List (List CoreEntry)). (opening_view k, [])) key;
       few = subst (λ (k : List (List CoreEntry)). length k ≤ 63) key c.requires.few;
       low_is = low ∙ ap low_in key;
       fixed_says = subst (λ (k : List (List CoreEntry)). WordsSay 0 c.in_ok-fixed.low c.truncate.new.self.items (list_in k)) (same ∙ key)
