@@ -9,7 +9,6 @@ ghost use Rattle.txn_board.specs.Words.{window, WordsSay, as_bit, tells};
 ghost use Rattle.txn_board.specs.Rows.{parts_in, list_in, low_in, opening_view, rest_view, dealt_view, joined_view, kept_rows, HasSeatRow, AreFrom, IsNumberOf, with_loads, spent_view};
 ghost use Rattle.txn_board.specs.Seen.{looked, Reads, bit_seen, status_seen, decision_seen, words_of};
 ghost use Rattle.std.specs.Int.{bit_at};
-ghost use Rattle.std.specs.Option.{option_or};
 
 use crate::fill::{WINDOW, words_of_lists};
 use crate::view::View;
@@ -245,15 +244,6 @@ impl<N: Naming> Seats<N> {
     }
 }
 
-fn either(a: Option<u32>, b: Option<u32>) -> Option<u32>
-    ensures { result ≡ option_or a b }
-{
-    match a {
-        Some(part) => Some(part),
-        None => b,
-    }
-}
-
 impl<T: Promise, N: Naming> Board<T, N> {
     /// The seat of the next part.
     pub fn deal(&self, seats: &mut Seats<N>) -> BoardSeat<N>
@@ -295,7 +285,7 @@ impl<T: Promise, N: Naming> Board<T, N> {
             of: _,
         } = other;
         self.table.shared.join_seat::<Joins>(&mut seat.seat, taken);
-        seat.part = either(seat.part, part);
+        seat.part = seat.part.or(part);
     }
 
     /// Ends the board. By the rows of a seat that has every part's, the lists are lawful together, whichever parts keep what

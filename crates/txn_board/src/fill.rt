@@ -5,7 +5,7 @@ ghost use Rattle.txn_model.specs.Coord.{count_new};
 ghost use Rattle.txn_board.specs.Words.{window, WordsSay, mark_of, with_mark, with_more, low_of_log};
 ghost use Rattle.txn_board.specs.Rows.{list_in};
 
-use crate::words::{is_bit_set, mark_of, mask_of, offset_of};
+use crate::words::{Word, is_bit_set, mark_of, mask_of, offset_of};
 use std::alloc::{AllocError, Global};
 use txn_core::{CoreEntry, Skeleton};
 
@@ -75,7 +75,7 @@ pub(crate) fn low_watermark(words: &[u64], begun: u64) -> u64
     ensures most { result ≤ begun }
 {
     let mut low = 0;
-    while low < begun && is_bit_set(words[(3 * low + 2) as usize], 0) {
+    while low < begun && is_bit_set(words[(3 * low + offset_of(Word::Done)) as usize], 0) {
         low += 1;
     }
     low
