@@ -1,8 +1,9 @@
 #!/usr/bin/env python3
 """Compares the man page with the program and with the other pages: the requests with grammar.py, the refusals and their order with
 docs/LINES.md, the statuses with docs/OPERATING.md and the source, the session and what can be brought about with the program
-itself. Where groff is there, the page has to be set without a warning. Usage: manual.py [PROGRAM]   (PROGRAM as `rt run` left
-it, unless another is named)"""
+itself. Where groff is there, the page has to be set without a warning. Then it runs the two commands of README.md as they stand,
+and each session of a page, and compares the replies with those that the page has. Usage: manual.py [PROGRAM]   (PROGRAM as
+`rt run` left it, unless another is named)"""
 import json
 import os
 import re
@@ -18,6 +19,13 @@ from program import LEDGER, PROGRAM, SCRIPTS
 
 TOP = f"{SCRIPTS}/.."
 PAGE = f"{TOP}/docs/pulsar_txn.1"
+README = f"{TOP}/README.md"
+WITH_SESSIONS = ["docs/LINES.md", "crates/pulsar_txn/README.md"]
+# In the place of `rt run -- WORDS` and of `rt try -- WORDS`: the program with these words.
+RT = """#!/bin/sh
+case "$1 $2" in "run --" | "try --") shift 2; exec "$PROGRAM" "$@" ;; esac
+exit 99
+"""
 PLAIN = '{"do":"publish","topic":"orders","data":"a"}'
 READ = '{"do":"read","topic":"orders","from":0,"max":10}'
 NEW = '{"do":"new","timeout":60000}'
@@ -61,9 +69,20 @@ def statuses(text):
     return {int(number): quoted or word for number, quoted, word in found}
 
 
+def under(path, heading):
+    """The text behind a heading."""
+    return read(path).split(f"\n## {heading}\n", 1)[1].split("\n## ", 1)[0]
+
+
+def blocks(text, kind=""):
+    """The blocks of code of this kind, each as its text."""
+    found = re.findall(r"^```(\w*)\n(.*?)^```$", text, re.MULTILINE | re.DOTALL)
+    return [code for word, code in found if word == kind]
+
+
 def rows(path, heading):
     """The cells of the tables behind a heading."""
-    text = read(path).split(f"\n## {heading}\n", 1)[1].split("\n## ", 1)[0]
+    text = under(path, heading)
     return [[cell.strip() for cell in line.strip("|").split(" | ")] for line in text.split("\n") if line.startswith("| ")]
 
 
@@ -109,11 +128,44 @@ def compare_statuses(parts):
     return here
 
 
-def try_session(parts, top):
-    """The session of the page."""
-    lines = parts["EXAMPLES"].split("\n.nf\n")[1].split("\n.fi\n")[0].split("\n")[1:]
-    status, replies, _ = run(f"{top}/session", lines[0::2])
-    same("the session", (status, replies), (0, lines[1::2]))
+def try_sessions(parts, top):
+    """The sessions of the man page and of other pages: a command, and lines and replies by turns."""
+    found = [parts["EXAMPLES"].split("\n.nf\n")[1].split(".fi\n")[0]]
+    for path in WITH_SESSIONS:
+        there = [text for text in blocks(read(f"{TOP}/{path}")) if text.startswith("$ pulsar_txn ")]
+        assert there, f"{path} has no session"
+        found += there
+    for number, text in enumerate(found):
+        command, *lines = text.rstrip("\n").split("\n")
+        same("its command", command.split()[1::2], ["pulsar_txn", "lines"])
+        same("its topic", command.split()[4:], ["orders"])
+        status, replies, _ = run(f"{top}/session{number}", lines[0::2])
+        same(f"the session {command}", (status, replies), (0, lines[1::2]))
+    return len(found)
+
+
+def printed(command, top):
+    """What a command of the README prints, run at the top of the checkout, with /tmp elsewhere and the program in rt's place."""
+    there = {**os.environ, "PATH": f"{top}/bin:{os.environ['PATH']}", "PROGRAM": PROGRAM}
+    done = subprocess.run(["bash", "-c", command.replace("/tmp/", f"{top}/")], cwd=TOP, env=there, capture_output=True, text=True, timeout=60)
+    same("how a command of the README ends", (done.returncode, done.stderr), (0, ""))
+    return done.stdout
+
+
+def try_readme(top):
+    """The first command of the README prints the replies of its story, and its quick look those that stand below it."""
+    os.mkdir(f"{top}/bin")
+    with open(f"{top}/bin/rt", "w", encoding="utf-8") as stub:
+        stub.write(RT)
+    os.chmod(f"{top}/bin/rt", 0o755)
+    first, quick = blocks(under(README, "Set up"), "sh")[0], blocks(under(README, "A quick look"), "sh")[0]
+    asked = [json.loads(line)["do"] for line in re.findall(r"^  '(\{.*\})'", first, re.MULTILINE)]
+    story = [row for row in rows(README, "A transaction's story") if row[1] != "reply" and "`" in row[1]]
+    same("the lines of the story", [re.search(r"`(\w+)`", row[0])[1] for row in story], asked)
+    same("the replies of the story", printed(first, top).split("\n")[:-1], [row[1].strip("`") for row in story])
+    wanted = blocks(under(README, "A quick look"))[0]
+    same("the quick look", printed(quick, top), wanted)
+    return len(asked) + wanted.count("\n")
 
 
 def try_refusals(told, top):
@@ -162,13 +214,14 @@ def main():
         done = subprocess.run(["groff", "-man", "-ww", "-z", PAGE], capture_output=True, text=True, timeout=60)
         same("what groff says", (done.returncode, done.stderr), (0, ""))
     compare_requests(parts)
-    told = compare_refusals(parts)
+    refusals = compare_refusals(parts)
     lines = compare_statuses(parts)
     with tempfile.TemporaryDirectory() as top:
-        try_session(parts, top)
-        try_refusals(told, top)
+        sessions, lines_told = try_sessions(parts, top), try_readme(top)
+        try_refusals(refusals, top)
         try_statuses(lines, top)
-    print(f"manual: {len(grammar.ANSWERED)} requests, {len(told)} refusals and {len(lines)} statuses are as the page says", flush=True)
+    print(f"manual: {len(grammar.ANSWERED)} requests, {len(refusals)} refusals and {len(lines)} statuses are as the page says; so are "
+          f"{sessions} sessions, and {lines_told} lines of the README", flush=True)
 
 
 main()
