@@ -1,7 +1,8 @@
 #!/usr/bin/env python3
 """Looks whether the pages say what is there: each clause, law, definition, wrong body, file and script that they name is found in
 the sources, each link leads to a page and a section, no table stands twice, the README of a crate has fewer than 40 lines and says
-the crate's one idea and where its promises stand, and no line of text in README.md, docs and examples is wider than 128 columns. Usage: pages.py   (it starts no program)"""
+the crate's one idea and where its promises stand, and no line of text in README.md, docs and examples is wider than 128 columns.
+Usage: pages.py   (it starts no program)"""
 import collections
 import glob
 import os
@@ -20,6 +21,8 @@ DEFINED = re.compile(r"((?:`\w+`(?:, | and )?)+) in \[\w+\]\(([^)]*\.antt)\)")
 FIELD = re.compile(r"`(\w+)` of `(Promises|NeverLapses)`")
 LINK = re.compile(r"\[[^\]]*\]\(([^)\s]+)\)")
 PATH = re.compile(r"`((?:crates|docs|scripts|bench|examples)/[\w./-]+\.\w+)`")
+# A file that the README of a crate names: in the crate or one of its folders, in the crate at the bottom, or at the top
+OWN = re.compile(r"`([\w/*]+\.(?:rt|antt|txt))`")
 PROMISES = "docs/PROMISES.md"
 
 
@@ -103,6 +106,10 @@ def named_files(wrong):
                     wrong.append(f"{path}:{number}: no field {field} of {record}")
             for file in PATH.findall(line):
                 if not re.search(r"/[A-Z]+/", file) and not os.path.exists(os.path.join(TOP, file)):
+                    wrong.append(f"{path}:{number}: no file {file}")
+            for file in OWN.findall(line) if path.startswith("crates/") else []:
+                crate = os.path.dirname(path)
+                if not any(found(f"{folder}/{file}") for folder in (crate, f"{crate}/*", "crates/txn_base", ".")):
                     wrong.append(f"{path}:{number}: no file {file}")
     return len(edits)
 
