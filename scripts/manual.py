@@ -1,6 +1,6 @@
 #!/usr/bin/env python3
 """Compares the man page with the program and with the other pages: the requests with grammar.py, the refusals and their order with
-docs/LINES.md, the statuses with docs/OPERATING.md and the source, the session and what can be brought about with the program
+docs/LINES.md, the refusals and the statuses with docs/OPERATING.md, the statuses with the source, the session and what can be brought about with the program
 itself. Where groff is there, the page has to be set without a warning. Then it runs the two commands of README.md as they stand,
 and each session of a page, and compares the replies with those that the page has. Usage: manual.py [PROGRAM]   (PROGRAM as
 `rt run` left it, unless another is named)"""
@@ -109,6 +109,8 @@ def compare_refusals(parts):
     order = read(f"{TOP}/docs/LINES.md").split("\n## Order of refusals\n", 1)[1].split("\n## ", 1)[0]
     numbered = [word for line in order.split("\n") if re.match(r"\d", line) for word in re.findall(r"`(\w+)`", line) if word in told]
     same("their order", [refusal["no"] for refusal in refusals if refusal["no"] != "no_memory"], numbered)
+    there = {word for row in rows(f"{TOP}/docs/OPERATING.md", "Refusals") for word in re.findall(r"`(\w+)`", row[0])}
+    same("those of OPERATING.md", there - {"no", "transactions", "log"}, set(told))
     for text in objects(parts["Refusals"]) + objects(parts["REPLIES"]):
         same("its text", json.dumps(json.loads(text), sort_keys=True, separators=(",", ":")), text)
     return told
