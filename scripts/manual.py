@@ -1,9 +1,9 @@
 #!/usr/bin/env python3
 """Compares the man page with the program and with the other pages: the requests with grammar.py, the refusals and their order with
-docs/LINES.md, the refusals and the statuses with docs/OPERATING.md, the statuses with the source, the session and what can be brought about with the program
-itself. Where groff is there, the page has to be set without a warning. Then it runs the two commands of README.md as they stand,
-and each session of a page, and compares the replies with those that the page has. Usage: manual.py [PROGRAM]   (PROGRAM as
-`rt run` left it, unless another is named)"""
+docs/LINES.md, the refusals and the statuses with docs/OPERATING.md, the statuses with the source, the session and what can be
+brought about with the program itself. Where groff is there, the page has to be set without a warning. Then it runs the two commands
+of README.md as they stand, and each session of a page, and compares the replies with those that the page has.
+Usage: manual.py [PROGRAM]   (PROGRAM as `rt run` left it, unless another is named)"""
 import json
 import os
 import re
