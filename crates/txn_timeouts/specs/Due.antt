@@ -1,5 +1,5 @@
 -- Deadlines, and which of them are due.
-use Rattle.std.specs.Prelude.{◌≡◌, ◌<◌, ◌≤◌, ◌⊎◌, ℕ, Bool, nat_le, List, All, AllPairs, Contains, HoldsAt, Option, Some, None, length, slice_index_or}
+use Rattle.std.specs.Prelude.{◌≡◌, ◌<◌, ◌≤◌, ◌⊎◌, ℕ, Bool, nat_le, List, All, AllPairs, Contains, HoldsAt, IsPermutation, ◌∷◌, Option, Some, None, length, slice_index_or}
 
 -- What deadlines are seen as: each with the number of its transaction, the earliest first; and for how many more there is room.
 pub record DeadlinesView : Type 0 where
@@ -30,6 +30,10 @@ pub record IsFirst (now : ℕ) (items : List (ℕ × ℕ)) (number : ℕ) : Type
 abbrev pub IsFirstDue : ℕ → List (ℕ × ℕ) → Option ℕ → Type 0
 IsFirstDue now items (Some number) = IsFirst now items number
 IsFirstDue now items None = All (λ item. now < item.0) items
+
+-- These are the others with x among them.
+abbrev pub IsWith : ℕ × ℕ → List (ℕ × ℕ) → List (ℕ × ℕ) → Type 0
+IsWith x others items = IsPermutation (x ∷ others) items
 
 -- x stands at place i.
 abbrev pub IsAt : List (ℕ × ℕ) → ℕ × ℕ → ℕ → Type 0

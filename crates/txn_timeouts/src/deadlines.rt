@@ -1,6 +1,6 @@
 //! Deadlines in a queue, the earliest first.
 ghost use Rattle.std.specs.Prelude.{◌≡◌, ◌<◌, ◌≤◌, ◌+◌, ℕ, [], ◌∷◌, length, Contains, IsPermutation, OnOk, OnErr, IfOk, IfErr, count_by};
-ghost use Rattle.txn_timeouts.specs.Due.{IsAt, IsGapFor, IsInOrder, IsFirstDue, is_due};
+ghost use Rattle.txn_timeouts.specs.Due.{IsAt, IsWith, IsGapFor, IsInOrder, IsFirstDue, is_due};
 
 use std::alloc::{AllocError, Global};
 use std::collections::VecDeque;
@@ -56,7 +56,7 @@ impl Deadlines {
     /// Adds the deadline of a transaction, and takes memory for it where there is no room.
     pub fn add(&mut self, deadline: u64, number: u64) -> Result<(), AllocError>
         requires fresh { Contains self.old.items (deadline, number) → ⊥ }
-        ensures ok { OnOk result (IsPermutation ((deadline, number) ∷ self.old.items) self.new.items) }
+        ensures ok { OnOk result (IsWith (deadline, number) self.old.items self.new.items) }
         ensures err { OnErr result (self.new.items ≡ self.old.items) }
         ensures full { OnErr result (self.old.room ≡ 0) }
     {
@@ -69,7 +69,7 @@ impl Deadlines {
     pub fn put(&mut self, deadline: u64, number: u64)
         requires room { 0 < self.old.room }
         requires fresh { Contains self.old.items (deadline, number) → ⊥ }
-        ensures items { IsPermutation ((deadline, number) ∷ self.old.items) self.new.items }
+        ensures items { IsWith (deadline, number) self.old.items self.new.items }
         ensures room { self.old.room ≤ self.new.room + 1 }
     {
         let at = match self.search(deadline, number) {
