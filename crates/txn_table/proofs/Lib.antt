@@ -1,0 +1,9 @@
+pub mod Applied
+pub mod Entry
+pub mod Finding
+pub mod Following
+pub mod Numbers
+pub mod Records
+pub mod Rows
+pub mod Searched
+pub mod Driving
