@@ -1,6 +1,6 @@
 -- The numbers of the undriven transactions after one entry more, and what is read off them.
-use Rattle.std.proofs.Common.{◌≡◌, ◌≢◌, ℕ, suc, ◌+◌, ◌-◌, ◌<◌, ◌≤◌, ◌==◌, eqb-true, eq-eqb, arith, Bool, true, false, cond, List, [], ◌∷◌, ◌++◌, length, length-append, get_or, set, length-set, insert, remove, filter, map, Some, None, refl, sym, ap, ◌∙◌, subst, true≢false, count_by}
-use Rattle.std.specs.Prelude.{Option, Contains, find, option_map, min}
+use Rattle.std.proofs.Common.{◌≡◌, ◌≢◌, ℕ, suc, ◌-◌, ◌<◌, ◌≤◌, ◌==◌, eqb-true, eq-eqb, arith, Bool, true, false, cond, List, [], ◌∷◌, ◌++◌, length, length-append, get_or, set, length-set, insert, remove, filter, Some, None, refl, sym, ap, ◌∙◌, subst, true≢false, count_by}
+use Rattle.std.specs.Prelude.{Contains, option_map, min}
 use Rattle.std.proofs.lemmas.List.{get_or-set_same, get_or-set_other, get_or_append_left}
 use Rattle.std.proofs.Math.Seq.{get_or-append_seam}
 use Rattle.std.proofs.lemmas.List.{append-nil}
@@ -15,12 +15,12 @@ use Rattle.txn_base.specs.declared.txn.Status.TheVariants.{Open, Committing, Com
 use Rattle.txn_base.specs.declared.entry.CoordEntry.{CoordEntry}
 use Rattle.txn_base.specs.declared.entry.CoordEntry.TheVariants as coord
 use Rattle.txn_base.specs.Records.{IsCoordEntry}
-use Rattle.txn_model.specs.Words.{below, numbers_from}
+use Rattle.txn_model.specs.Words.{below}
 use Rattle.txn_model.specs.Skeletons.{coord_skeletons}
 use Rattle.txn_model.specs.Coord.{count_new, status_of, is_open, is_deciding}
 use Rattle.txn_model.specs.Deadlines.{txn, is_undriven, transactions, first_undriven}
 use Rattle.txn_table.specs.declared.row.Row.{Row}
-use Rattle.txn_table.specs.Table.{AreRows, IsTable, IsGap, IsPlace, IsPut, IsTaken, IsKept, IsReady, Rises, drives, empty_row, is_new_entry, is_undriven_in, may_follow, row_after, rows_with, txn_in, undriven_of}
+use Rattle.txn_table.specs.Table.{IsTable, IsGap, IsPlace, IsPut, IsTaken, IsKept, IsReady, Rises, drives, empty_row, is_new_entry, is_undriven_in, may_follow, row_after, rows_with, txn_in, undriven_of}
 use Rattle.txn_table.proofs.Entry.{turns_begun}
 use Rattle.txn_table.proofs.Rows.{begun_row, row_is, status_of_row, entry_row}
 use Rattle.txn_table.proofs.Finding.{find-map, status_at}

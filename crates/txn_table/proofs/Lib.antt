@@ -2,6 +2,7 @@ pub mod Applied
 pub mod Entry
 pub mod Finding
 pub mod Following
+pub mod Laws
 pub mod Numbers
 pub mod Records
 pub mod Rows

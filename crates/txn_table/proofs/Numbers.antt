@@ -1,5 +1,5 @@
 -- The numbers that pass a test, in order, and how they change where the test changes at one number.
-use Rattle.std.proofs.Common.{◌≡◌, ◌≢◌, ◌⊎◌, ⊎_elim, inl, inr, ℕ, zero, suc, ◌+◌, ◌<◌, ◌≤◌, arith, Bool, true, false, cond, List, [], ◌∷◌, ◌++◌, length, get_or, insert, remove, filter, map, Some, None, refl, sym, ap, ap₂, ◌∙◌, subst, true≢false, count_by}
+use Rattle.std.proofs.Common.{◌≡◌, ◌≢◌, ◌⊎◌, ⊎_elim, inl, inr, ℕ, zero, suc, ◌+◌, ◌<◌, ◌≤◌, arith, Bool, true, false, cond, List, [], ◌∷◌, ◌++◌, length, get_or, insert, remove, filter, map, Some, None, refl, sym, ap, ap₂, ◌∙◌, subst, count_by}
 use Rattle.std.specs.Prelude.{All, Contains, Option, find}
 use Rattle.std.proofs.lemmas.Bool.{cases_lt}
 use Rattle.std.proofs.lemmas.List.Elements.{All-filter, filter_passes}

@@ -1,12 +1,11 @@
 -- The record of an entry stands for that entry.
-use Rattle.std.proofs.Common.{◌≡◌, ℕ, ◌+◌, ◌≤◌, List, [], ◌∷◌, ◌++◌, length, length-append, get_or, drop, subst, refl, sym, ap, ◌∙◌, arith}
+use Rattle.std.proofs.Common.{◌≡◌, ℕ, List, [], ◌++◌, drop, sym, ap, ◌∙◌, arith}
 use Rattle.std.proofs.lemmas.List.{append_assoc, append-nil}
 use Rattle.byteorder.specs.Endian.{big_bytes, big_number}
 use Rattle.byteorder.specs.Numbers.{big_number-reads_back}
 use Rattle.txn_base.specs.declared.txn.TxnId.{TxnId}
 use Rattle.txn_base.specs.declared.entry.CoordEntry.{CoordEntry}
 use Rattle.txn_base.specs.declared.entry.CoordEntry.TheVariants as coord
-use Rattle.txn_base.specs.Frames.{IsRecord, IsBatch, frame}
 use Rattle.txn_base.specs.Records.{IsTxnId, IsCoordEntry, coord_record, txn_bytes}
 use Rattle.txn_base.specs.Decoded.{txn_at_front, coord_entry_of}
 

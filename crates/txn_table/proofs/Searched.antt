@@ -1,5 +1,5 @@
 -- Where a number stands among numbers in order.
-use Rattle.std.proofs.Common.{◌≡◌, ◌<◌, ◌≤◌, ◌+◌, ℕ, Bool, true, false, List, length, refl, sym, subst, arith, slice_index_or, nat_le, Ok, Err, Ordering}
+use Rattle.std.proofs.Common.{◌≡◌, ◌<◌, ◌+◌, ℕ, Bool, true, false, List, length, refl, sym, arith, slice_index_or, nat_le, Ok, Err, Ordering}
 use Rattle.std.specs.Prelude.{Contains, Result, Option, Some, None, IfOk, IfErr, OnOk, OnErr, OnSome, IsSome}
 use Rattle.std.specs.Ordering.{MatchOrdering, nat_cmp, is_lt}
 use Rattle.std.specs.declared.cmp.Ordering.TheVariants.{Less, Equal, Greater}

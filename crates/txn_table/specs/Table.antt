@@ -12,7 +12,7 @@ use Rattle.txn_base.specs.Records.{IsCoordEntry}
 use Rattle.txn_model.specs.Words.{first_of, last_of, below}
 use Rattle.txn_model.specs.Skeletons.{same_txn, coord_skeleton, coord_skeletons}
 use Rattle.txn_model.specs.Coord.{status_of, has_new, says_status, in_parts, count_new, coord_allows, CoordLawful}
-use Rattle.txn_model.specs.Deadlines.{txn, says_deadline, is_closed, is_undriven, transactions}
+use Rattle.txn_model.specs.Deadlines.{txn, says_deadline, is_closed, is_undriven}
 use Rattle.txn_table.specs.declared.row.Row.{Row}
 
 -- What a table is seen as: the entries whose table it is, and how many New entries it takes without memory. Any other entry

@@ -1,5 +1,5 @@
 //! Deadlines in a queue, the earliest first.
-ghost use Rattle.std.specs.Prelude.{◌≡◌, ◌<◌, ◌≤◌, ◌+◌, ℕ, [], ◌∷◌, length, Contains, IsPermutation, OnOk, OnErr, IfOk, IfErr, count_by};
+ghost use Rattle.std.specs.Prelude.{true, false, ◌≡◌, ◌<◌, ◌≤◌, ◌+◌, ℕ, [], ◌∷◌, length, Contains, IsPermutation, OnOk, OnErr, IfOk, IfErr, count_by};
 ghost use Rattle.txn_timeouts.specs.Due.{IsAt, IsWith, IsGapFor, IsInOrder, IsFirstDue, is_due};
 
 use std::alloc::{AllocError, Global};
@@ -87,6 +87,17 @@ impl Deadlines {
     {
         if let Ok(at) = self.search(deadline, number) {
             let _ = self.items.remove(at);
+        }
+    }
+
+    /// Whether this deadline of this transaction is there.
+    pub fn contains(&self, deadline: u64, number: u64) -> bool
+        ensures there { result ≡ true → Contains self.now.items (deadline, number) }
+        ensures absent { result ≡ false → Contains self.now.items (deadline, number) → ⊥ }
+    {
+        match self.search(deadline, number) {
+            Ok(_) => true,
+            Err(_) => false,
         }
     }
 

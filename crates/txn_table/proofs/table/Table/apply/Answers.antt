@@ -1,9 +1,8 @@
-use Rattle.std.proofs.Common.{◌≡◌, ◌≤◌, ◌-◌, ℕ, true, List, length, ap, sym, subst, ◌∙◌, arith}
+use Rattle.std.proofs.Common.{◌≡◌, ◌≤◌, ◌-◌, true, length, ap, sym, ◌∙◌, arith}
 use Rattle.std.specs.Prelude.{min, vec_capacity}
 use Rattle.std.specs.VecDeque.{deque_capacity}
 use Rattle.txn_model.specs.Skeletons.{coord_skeleton}
-use Rattle.txn_table.specs.declared.row.Row.{Row}
-use Rattle.txn_table.specs.Table.{is_new_entry, may_follow, rows_with, undriven_of}
+use Rattle.txn_table.specs.Table.{is_new_entry, rows_with, undriven_of}
 use Rattle.txn_table.proofs.Applied.{passed_read, applied, front_applied}
 use Rattle.txn_table.proofs.Rows.{allowed_in, entry_row}
 use Rattle.txn_table.proofs.Driving.{numbers_rise, numbers_ready, numbers_after, room_stays}
