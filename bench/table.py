@@ -1,9 +1,10 @@
 #!/usr/bin/env python3
 """The transaction table and the deadlines by themselves: what an entry costs in a map in order of insertion, in plain rows by
-number, and in the table; the rates at which many open transactions are ended oldest first and newest first; and those at which
-many due ones are expired, at first and at last. It makes a repository of its own with a program that plays them, in a folder that
-is thrown away, and takes that program's times by turns. Usage: table.py [BUILT]   (BUILT: the program of an earlier run)"""
+number, and in the table; the rates at which many open transactions are ended oldest first and newest first; and the instructions
+that expiring a due one takes, at first and at last, by valgrind. It makes a repository of its own with a program that plays them,
+in a folder that is thrown away, and takes that program's times by turns. Usage: table.py [BUILT]   (BUILT: an earlier program)"""
 import os
+import re
 import shutil
 import statistics
 import subprocess
@@ -52,15 +53,23 @@ def medians(program, *runs):
     return [statistics.median(column) for column in zip(*rounds)]
 
 
+def instructions(program, *words):
+    """The instructions of one run."""
+    with tempfile.NamedTemporaryFile() as file:
+        done = subprocess.run(["valgrind", "--tool=callgrind", f"--callgrind-out-file={file.name}", program, *map(str, words)],
+                              check=True, capture_output=True, text=True)
+    return int(re.search(r"Collected : (\d+)", done.stderr).group(1))
+
+
 def measure(program):
     names = ("a map in order of insertion", "plain rows by number", "the table")
     for name, seconds in zip(names, medians(program, *((what, MANY, 0) for what in (IN_MAP, IN_ROWS, IN_TABLE)))):
         print(f"{name}: {seconds / MANY / 4 * 1e9:.1f} ns an entry, over {MANY} transactions of four entries")
     oldest, newest = medians(program, (OLDEST, OPEN, 0), (NEWEST, OPEN, 0))
     print(f"{OPEN} open and ended, oldest first {OPEN / oldest:.0f} a second, newest first {OPEN / newest:.0f}: {oldest / newest:.2f}")
-    none, first, most, all_of_them = medians(program, *((DRAINED, OPEN, count) for count in (0, 1000, OPEN - 1000, OPEN)))
-    print(f"{OPEN} due, expired in order: the first thousand {(first - none) * 1e6:.0f} microseconds, "
-          f"the last {(all_of_them - most) * 1e6:.0f}, on average {(all_of_them - none) / OPEN * 1e9:.0f} ns each")
+    none, first, most, all_of_them = (instructions(program, DRAINED, OPEN, count) for count in (0, 1000, OPEN - 1000, OPEN))
+    print(f"{OPEN} due, expired in order: {(first - none) / 1000:.0f} instructions each of the first thousand, "
+          f"{(all_of_them - most) / 1000:.0f} each of the last: {(all_of_them - most) / (first - none):.2f}")
 
 
 def main():
