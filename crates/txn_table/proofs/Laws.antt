@@ -10,3 +10,6 @@ pub use Rattle.txn_table.proofs.Entry.{in_parts-push, same_itself}
 -- The record of an entry is read as that entry, also behind others.
 pub use Rattle.txn_table.proofs.Records.{coord_back}
 pub use Rattle.txn_table.proofs.Applied.{records-push, coord_entries-push}
+-- What deadlines say of a log where they are those of its open transactions: which of these is the first that is due, that none
+-- is, and how many are.
+pub use Rattle.txn_table.proofs.Awaited.{first_waiting, none_waiting, due_waiting}

@@ -1,4 +1,5 @@
 pub mod Applied
+pub mod Awaited
 pub mod Entry
 pub mod Finding
 pub mod Following
