@@ -6,14 +6,13 @@ use Rattle.std.specs.Option.{option_or}
 use mathlib.Core.Option.{some}
 use lib.ListN.{get_elem?}
 use native.Mathlib.Decide.{ℕ_discrete}
-use Rattle.atomic_table.specs.Table.{Allows, keeps}
 use Rattle.atomic_table.specs.Table as table
 use Rattle.txn_base.specs.declared.txn.TxnId.{TxnId}
 use Rattle.txn_base.specs.declared.txn.Decision.{Decision}
 use Rattle.txn_base.specs.declared.txn.Decision.TheVariants.{Commit, Abort}
 use Rattle.txn_base.specs.declared.core_entry.CoreEntry.{CoreEntry}
 use Rattle.txn_model.specs.Words.{numbers_from}
-use Rattle.txn_model.specs.Coord.{decision_of, in_parts, closing_skeleton}
+use Rattle.txn_model.specs.Coord.{decision_of, in_parts, count_new, closing_skeleton}
 use Rattle.txn_model.specs.Topic.{marks, marker_of}
 use Rattle.txn_model.specs.Deadlines.{txn}
 use Rattle.txn_model.proofs.Laws.Tests.{no_true, and_both}
@@ -22,12 +21,14 @@ use Rattle.txn_core.specs.declared.step.CoreRow.{CoreRow}
 use Rattle.txn_core.specs.Steps.{settled_of, flight_of, is_decision, is_marked, may_cross}
 use Rattle.txn_core.proofs.Laws.{decision_test}
 use Rattle.txn_board.specs.declared.view.View.{View}
+use Rattle.txn_board.specs.declared.words.RowStep.TheVariants as turn
 use Rattle.txn_board.specs.declared.words.Word.TheVariants.{Registered, Done}
-use Rattle.txn_board.specs.Words.{window, IsIn, word_at, as_bit, is_bit_set, ends, sets, tells}
+use Rattle.txn_board.specs.Words.{window, IsIn, word_at, as_bit, is_bit_set, ends, sets, tells, entries_of}
 use Rattle.txn_board.specs.Rows.{parts_in, low_in, loaded}
-use Rattle.txn_board.specs.Rule.{Holds, AllowsTo}
-use Rattle.txn_board.specs.Calls.{MayStart, MayClose, IsOfRow, missing_from, first_missing, closing_by, closing_in, closing_where, start_where}
-use Rattle.txn_board.proofs.Startings.{start_at, bit_true}
+use Rattle.txn_board.specs.Rule.{Holds, AllowsTo, Found}
+use Rattle.txn_board.specs.Calls.{MayStart, MayClose, IsOfRow, missing_from, first_missing, closing_by, closing_in, closing_where, start_where, row_step, StartsClosing}
+use Rattle.txn_board.proofs.Entries.{none_one}
+use Rattle.txn_board.proofs.Startings.{StartFits, below_none, no_begin, start_at, bit_true}
 use Rattle.txn_board.proofs.Steps.{kept, mine}
 
 -- ---- The first part that is missing.
@@ -74,7 +75,7 @@ all_of test pred k (suc count) h = go (test k) refl (all_of test pred (suc k) co
     go true e rest = and_both (pred k) (list_all pred (filter test (numbers_from (suc k) count))) (h k (omega arith) (omega arith) e) rest
     go false e rest = rest
 
-some_marker : (x : TxnId) (es : List CoreEntry) → list_any (ends x) es ≡ true → (d : Decision) × (marker_of es x ≡ Some d)
+pub some_marker : (x : TxnId) (es : List CoreEntry) → list_any (ends x) es ≡ true → (d : Decision) × (marker_of es x ≡ Some d)
 some_marker x [] h = absurd (no_true h)
 some_marker x (e ∷ es) h = go (marks x e) refl (some_marker x es)
   where
@@ -119,8 +120,16 @@ starts_close lists id v place x reg inside at m own =
     one : closing_in v.rows x ≡ closing_skeleton (txn x) m.decision ∷ []
     one = ap (λ rs. closing_in rs x) m.may.one ∙ ap (λ o. closing_by o x) m.decided
 
+    closes_none : (y : ℕ) (d : Decision) → y < low_in lists → entries_of (txn y) (closing_skeleton (txn x) d ∷ []) ≡ []
+    closes_none y Commit lt = none_one (txn y) (closing_skeleton (txn x) Commit) (below_none lists y x inside lt)
+    closes_none y Abort lt = none_one (txn y) (closing_skeleton (txn x) Abort) (below_none lists y x inside lt)
+
+    begins_none : (d : Decision) → count_new (closing_skeleton (txn x) d ∷ []) ≡ 0
+    begins_none Commit = refl
+    begins_none Abort = refl
+
     go : (s : table.State ℕ View) (h : Holds lists s) (seat : get_elem? s.views id ≡ some v) (o : Option ℕ) → first_missing reg (slice_index s.words place) ≡ o → (e : CoreEntry) (more : List CoreEntry) → closing_where o v.rows x ≡ e ∷ more
-        → (k : MayStart (parts_in lists) (closing_where o v.rows x) v) × (list_all (may_cross (settled_of h.state) k.row.part) (closing_where o v.rows x) ≡ true)
+        → (k : MayStart (parts_in lists) (closing_where o v.rows x) v) × (list_all (may_cross (settled_of h.state) k.row.part) (closing_where o v.rows x) ≡ true) × StartFits lists k.row (closing_where o v.rows x)
     go s h seat (Some q) f e more is = absurd (cc is)
     go s h seat None f e more is =
         let its = mine lists s h id v seat m.may.row m.may.one in
@@ -129,7 +138,9 @@ starts_close lists id v place x reg inside at m own =
         let bits : (p : ℕ) → p < 64 → is_bit_set reg p ≡ tells (settled_of h.state) (txn x) Registered p = λ p lt. own m.may.row m.may.one m.first p lt ∙ ap (λ l. list_any (sets Registered p (txn x)) l) (sym log) in
         let none : first_missing reg (slice_index s.words (word_at (low_in lists) x Done)) ≡ None = ap (λ i. first_missing reg (slice_index s.words i)) (sym at) ∙ f in
         let all = closing_cross (settled_of h.state) m.may.row.part (txn x) m.decision (all_marked lists s h x m.decision reg inside dec bits none) in
-        subst (λ (es : List CoreEntry). (k : MayStart (parts_in lists) es v) × (list_all (may_cross (settled_of h.state) k.row.part) es ≡ true)) (sym one) (m.may, all)
+        let fits : StartFits lists m.may.row (closing_skeleton (txn x) m.decision ∷ []) =
+        record { none = λ y lt. closes_none y m.decision lt; begun = no_begin lists s h id v seat m.may.row m.may.one (closing_skeleton (txn x) m.decision ∷ []) (begins_none m.decision) } in
+        subst (λ (es : List CoreEntry). (k : MayStart (parts_in lists) es v) × (list_all (may_cross (settled_of h.state) k.row.part) es ≡ true) × StartFits lists k.row es) (sym one) (m.may, all, fits)
 
 -- the registered parts, by the coordinator's row
 pub of_row : (lists : List (List CoreEntry)) (s : table.State ℕ View) (h : Holds lists s) (id : ℕ) (v : View) (seat : get_elem? s.views id ≡ some v) (place x : ℕ) → IsIn (low_in lists) window x → place ≡ word_at (low_in lists) x Registered
@@ -146,7 +157,26 @@ of_row lists s h id v seat place x inside at r one first p lt =
     by : (p : ℕ) → settled_of h.state 0 ≡ r.row.settled → tells (settled_of h.state) (txn x) Registered p ≡ list_any (sets Registered p (txn x)) r.row.settled
     by p log = ap (λ l. list_any (sets Registered p (txn x)) l) log
 
-pub guarded_fact : (φ : Type 0) (holds : table.State ℕ View → Type 0) (slots id : ℕ) (me : View × List (ℕ × ℕ)) (i : ℕ) (next : ℕ → View) (fact : ℕ → Type 0) → (φ → AllowsTo holds id me.0 i (λ n. n) next)
-    → (φ → (s : table.State ℕ View) → holds s → get_elem? s.views id ≡ some me.0 → fact (slice_index s.words i))
-    → Allows (λ s. φ → holds s) slots id me i (λ n. n) (λ n w. (w ≡ (next n, me.1)) × (φ → fact n))
-guarded_fact φ holds slots id me i next fact allows knows = λ s h len seat fits. (next (slice_index s.words i), keeps, tt, (λ p. allows p s (h p) seat), (refl, λ p. knows p s (h p) seat))
+-- the same by what a load showed
+pub found_row : (lists : List (List CoreEntry)) (place n : ℕ) (v : View) (x : ℕ) → IsIn (low_in lists) window x → place ≡ word_at (low_in lists) x Registered → Found lists place n v → IsOfRow n x v
+found_row lists place n v x inside at f = subst (λ k. IsOfRow k x v) f.stood (of_row lists f.board f.rule f.seat v f.view place x inside at)
+
+-- what the start of a closing tells, by its two loads
+pub starts_closing : (made : Type 0) (lists : List (List CoreEntry)) (x reg done : ℕ) (missing : Option ℕ) (v u w : View) (first second : ℕ)
+    → IsIn (low_in lists) window x → first ≡ word_at (low_in lists) x Registered → second ≡ word_at (low_in lists) x Done
+    → u ≡ loaded first reg v → w ≡ loaded second done (row_step (turn.Close x reg) u done) → missing ≡ first_missing reg done → (made → Found lists first reg v) → (made → Found lists second done u)
+    → StartsClosing made lists x reg done missing v w
+starts_closing made lists x reg done missing v u w first second inside a b e f is looked found =
+    let seen : u ≡ loaded (word_at (low_in lists) x Registered) reg v = e ∙ ap (λ i. loaded i reg v) a in
+    record {
+      looked = λ p. subst (λ i. Found lists i reg v) a (looked p);
+      of_row = λ p. found_row lists first reg v x inside a (looked p);
+      starts = record {
+        view = f
+            ∙ (ap (λ (t : View). loaded second done (start_where (closing_where (first_missing reg done) t.rows x) t)) seen
+            ∙ (ap (λ o. loaded second done (start_where (closing_where o v.rows x) (loaded (word_at (low_in lists) x Registered) reg v))) (sym is)
+            ∙ ap (λ i. loaded i done (start_where (closing_where missing v.rows x) (loaded (word_at (low_in lists) x Registered) reg v))) b));
+        found = λ p. subst (λ i. Found lists i done (loaded (word_at (low_in lists) x Registered) reg v)) b (subst (λ (t : View). Found lists second done t) seen (found p));
+      };
+      least = is;
+    }

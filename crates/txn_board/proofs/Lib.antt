@@ -1,3 +1,4 @@
+pub mod Entries
 pub mod Hits
 pub mod Marks
 pub mod Steps
@@ -8,3 +9,4 @@ pub mod Reading
 pub mod Startings
 pub mod Closings
 pub mod Meanings
+pub mod Telling

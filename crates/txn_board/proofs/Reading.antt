@@ -1,8 +1,9 @@
 -- What a reader's answer is, by the words that it looked at.
-use Rattle.std.proofs.Common.{◌≡◌, ◌≢◌, ℕ, ◌+◌, ◌<◌, ◌≤◌, arith, ◌==◌, Bool, true, false, ◌&&◌, if◌then◌else◌, List, [], ◌∷◌, ◌++◌, Option, Some, None, refl, sym, ap, ◌∙◌, append_assoc}
+use Rattle.std.proofs.Common.{◌≡◌, ◌≢◌, ℕ, ◌+◌, ◌<◌, ◌≤◌, arith, ◌==◌, Bool, true, false, ◌&&◌, if◌then◌else◌, List, [], ◌∷◌, ◌++◌, Option, Some, None, refl, sym, ap, ◌∙◌, subst, append_assoc}
 use Rattle.std.specs.Prelude.{map, nat_le}
 use Rattle.std.specs.Int.{bit_at}
 use Rattle.std.proofs.lemmas.Bool.{eq-eqb, ne_eqb, lt-ltb, le-ltb}
+use Rattle.std.proofs.lemmas.List.{append-nil}
 use native.Mathlib.Decide.{dec_lt}
 use Rattle.txn_base.specs.declared.core_entry.CoreEntry.{CoreEntry}
 use Rattle.txn_base.specs.declared.txn.Status.{Status}
@@ -13,9 +14,10 @@ use Rattle.txn_board.specs.declared.view.View.{View}
 use Rattle.txn_board.specs.declared.words.Word.{Word}
 use Rattle.txn_board.specs.declared.words.Word.TheVariants.{Registered, Decided, Done}
 use Rattle.txn_board.specs.Words.{window, is_in, offset, word_at, as_bit, is_bit_set, tells}
-use Rattle.txn_board.specs.Rows.{list_in, low_in, with_loads}
-use Rattle.txn_board.specs.Seen.{place_of, last_value, bit_seen, status_by, status_seen, words_of, word_places, looked, Reads}
-use Rattle.txn_board.proofs.Marks.{in_by}
+use Rattle.txn_board.specs.Rows.{list_in, low_in, loaded, with_loads}
+use Rattle.txn_board.specs.Rule.{AreFound}
+use Rattle.txn_board.specs.Seen.{place_of, last_value, bit_seen, status_by, status_seen, words_of, word_places, looked, Looked, Reads, ReadsStatus}
+use Rattle.txn_board.proofs.Marks.{in_by, in_of}
 
 last_append : (b : ℕ) (xs ys : List Load) (place : ℕ) → last_value b (xs ++ ys) place ≡ last_value (last_value b xs place) ys place
 last_append b [] ys place = refl
@@ -25,11 +27,25 @@ places_append : (xs ys : List Load) → map place_of (xs ++ ys) ≡ map place_of
 places_append [] ys = refl
 places_append (x ∷ xs) ys = ap (λ (l : List ℕ). x.place ∷ l) (places_append xs ys)
 
-pub record Looked (lists : List (List CoreEntry)) (x : ℕ) (w : Word) (n : ℕ) : Type 0 where
-  pub below : x < low_in lists → (p : ℕ) → p < 64 → bit_at n p ≡ as_bit (tells (list_in lists) (txn x) w p)
-  pub past : low_in lists + window ≤ x → n ≡ 0
+-- ---- Loads that showed what stood.
 
-module _ (lists : List (List CoreEntry)) (x : ℕ) where
+none_more : (v : View) → with_loads [] v ≡ v
+none_more v = ap (λ ms. record { rows = v.rows; loads = ms }) (append-nil v.loads)
+
+pub found_append : (lists : List (List CoreEntry)) (v : View) (xs ys : List Load) → AreFound lists v xs → AreFound lists (with_loads xs v) ys → AreFound lists v (xs ++ ys)
+found_append lists v [] ys a b = subst (λ u. AreFound lists u ys) (none_more v) b
+found_append lists v (x ∷ xs) ys a b =
+    let onto : with_loads (x ∷ xs) v ≡ with_loads xs (loaded x.place x.value v) = ap (λ ms. record { rows = v.rows; loads = ms }) (sym (append_assoc v.loads (x ∷ []) xs)) in
+    (a.0, found_append lists (loaded x.place x.value v) xs ys a.1 (subst (λ u. AreFound lists u ys) onto b))
+
+pub found_one : (made : Type 0) (lists : List (List CoreEntry)) (x : ℕ) (w : Word) (n : ℕ) (v : View) → Looked made lists x w n v → made → AreFound lists v (looked lists x w n)
+found_one made lists x w n v k m = go (is_in (low_in lists) window x) refl
+  where
+    go : (b : Bool) → is_in (low_in lists) window x ≡ b → AreFound lists v (if b then record { place = word_at (low_in lists) x w; value = n } ∷ [] else [])
+    go true i = (k.found m (in_of (low_in lists) window x i), tt)
+    go false i = tt
+
+module _ (made : Type 0) (lists : List (List CoreEntry)) (x : ℕ) where
   last_hit : (b : ℕ) (w : Word) (n : ℕ) → is_in (low_in lists) window x ≡ true → last_value b (looked lists x w n) (word_at (low_in lists) x w) ≡ n
   last_hit b w n i = ap (λ t. last_value b (if t then record { place = word_at (low_in lists) x w; value = n } ∷ [] else []) (word_at (low_in lists) x w)) i ∙ ap (λ t. if t then n else b) (eq-eqb (word_at (low_in lists) x w) (word_at (low_in lists) x w) refl)
 
@@ -55,9 +71,9 @@ module _ (lists : List (List CoreEntry)) (x : ℕ) where
       go false = refl
 
   -- a word that was looked at, whose last load is this
-  bit_of : (loads : List Load) (w : Word) (n p : ℕ) → p < 64 → Looked lists x w n → (is_in (low_in lists) window x ≡ true → last_value 0 loads (word_at (low_in lists) x w) ≡ n) → (is_in (low_in lists) window x ≡ false → loads ≡ [])
+  bit_of : (loads : List Load) (w : Word) (n p : ℕ) (u : View) → p < 64 → Looked made lists x w n u → (is_in (low_in lists) window x ≡ true → last_value 0 loads (word_at (low_in lists) x w) ≡ n) → (is_in (low_in lists) window x ≡ false → loads ≡ [])
       → bit_seen lists loads x w p ≡ is_bit_set n p
-  bit_of loads w n p small k last none = go (dec_lt x (low_in lists))
+  bit_of loads w n p u small k last none = go (dec_lt x (low_in lists))
     where
       bit : (b : Bool) → b ≡ (as_bit b == 1)
       bit true = refl
@@ -84,11 +100,11 @@ module _ (lists : List (List CoreEntry)) (x : ℕ) where
   no_looked : (w : Word) (n : ℕ) → is_in (low_in lists) window x ≡ false → looked lists x w n ≡ []
   no_looked w n i = ap (λ t. if t then record { place = word_at (low_in lists) x w; value = n } ∷ [] else []) i
 
-  pub one_bit : (w : Word) (n p : ℕ) → p < 64 → Looked lists x w n → bit_seen lists (looked lists x w n) x w p ≡ is_bit_set n p
-  one_bit w n p small k = bit_of (looked lists x w n) w n p small k (last_hit 0 w n) (no_looked w n)
+  pub one_bit : (w : Word) (n p : ℕ) (u : View) → p < 64 → Looked made lists x w n u → bit_seen lists (looked lists x w n) x w p ≡ is_bit_set n p
+  one_bit w n p u small k = bit_of (looked lists x w n) w n p u small k (last_hit 0 w n) (no_looked w n)
 
-  pub one_reads : (w : Word) (n : ℕ) (v v' : View) → v' ≡ with_loads (looked lists x w n) v → Reads lists x (w ∷ []) (looked lists x w n) v v'
-  one_reads w n v v' e = record { view = e; places = places_one w n }
+  pub one_reads : (w : Word) (n : ℕ) (v v' : View) → Looked made lists x w n v → v' ≡ with_loads (looked lists x w n) v → Reads made lists x (w ∷ []) (looked lists x w n) v v'
+  one_reads w n v v' k e = record { view = e; places = places_one w n; found = found_one made lists x w n v k }
 
   abbrev two : ℕ → ℕ → List Load
   two a b = looked lists x Registered a ++ looked lists x Decided b
@@ -112,15 +128,15 @@ module _ (lists : List (List CoreEntry)) (x : ℕ) where
       last_of_all true = refl
       last_of_all false = refl
 
-  two_registered : (a b p : ℕ) → p < 64 → Looked lists x Registered a → bit_seen lists (two a b) x Registered p ≡ is_bit_set a p
-  two_registered a b p small k =
-      bit_of (two a b) Registered a p small k
+  two_registered : (a b p : ℕ) (u : View) → p < 64 → Looked made lists x Registered a u → bit_seen lists (two a b) x Registered p ≡ is_bit_set a p
+  two_registered a b p u small k =
+      bit_of (two a b) Registered a p u small k
       (λ i. last_append 0 (looked lists x Registered a) (looked lists x Decided b) (word_at (low_in lists) x Registered) ∙ (last_miss (last_value 0 (looked lists x Registered a) (word_at (low_in lists) x Registered)) Decided Registered b (λ e. omega (arith, e)) ∙ last_hit 0 Registered a i))
       (two_none a b)
 
-  two_decided : (a b p : ℕ) → p < 64 → Looked lists x Decided b → bit_seen lists (two a b) x Decided p ≡ is_bit_set b p
-  two_decided a b p small k =
-      bit_of (two a b) Decided b p small k
+  two_decided : (a b p : ℕ) (u : View) → p < 64 → Looked made lists x Decided b u → bit_seen lists (two a b) x Decided p ≡ is_bit_set b p
+  two_decided a b p u small k =
+      bit_of (two a b) Decided b p u small k
       (λ i. last_append 0 (looked lists x Registered a) (looked lists x Decided b) (word_at (low_in lists) x Decided) ∙ last_hit (last_value 0 (looked lists x Registered a) (word_at (low_in lists) x Decided)) Decided b i)
       (two_none a b)
 
@@ -128,63 +144,80 @@ module _ (lists : List (List CoreEntry)) (x : ℕ) where
   three_none a b c i = ap (λ l. l ++ looked lists x Done c) (two_none a b i) ∙ no_looked Done c i
 
   -- a word of the first two, behind which the third was looked at
-  three_old : (a b c p : ℕ) (w : Word) (n : ℕ) → offset Done ≢ offset w → p < 64 → Looked lists x w n → (is_in (low_in lists) window x ≡ true → last_value 0 (two a b) (word_at (low_in lists) x w) ≡ n)
+  three_old : (a b c p : ℕ) (w : Word) (n : ℕ) (u : View) → offset Done ≢ offset w → p < 64 → Looked made lists x w n u → (is_in (low_in lists) window x ≡ true → last_value 0 (two a b) (word_at (low_in lists) x w) ≡ n)
       → bit_seen lists (three a b c) x w p ≡ is_bit_set n p
-  three_old a b c p w n away small k last =
-      bit_of (three a b c) w n p small k (λ i. last_append 0 (two a b) (looked lists x Done c) (word_at (low_in lists) x w) ∙ (last_miss (last_value 0 (two a b) (word_at (low_in lists) x w)) Done w c away ∙ last i)) (three_none a b c)
+  three_old a b c p w n u away small k last =
+      bit_of (three a b c) w n p u small k (λ i. last_append 0 (two a b) (looked lists x Done c) (word_at (low_in lists) x w) ∙ (last_miss (last_value 0 (two a b) (word_at (low_in lists) x w)) Done w c away ∙ last i)) (three_none a b c)
 
-  three_done : (a b c p : ℕ) → p < 64 → Looked lists x Done c → bit_seen lists (three a b c) x Done p ≡ is_bit_set c p
-  three_done a b c p small k =
-      bit_of (three a b c) Done c p small k (λ i. last_append 0 (two a b) (looked lists x Done c) (word_at (low_in lists) x Done) ∙ last_hit (last_value 0 (two a b) (word_at (low_in lists) x Done)) Done c i) (three_none a b c)
+  three_done : (a b c p : ℕ) (u : View) → p < 64 → Looked made lists x Done c u → bit_seen lists (three a b c) x Done p ≡ is_bit_set c p
+  three_done a b c p u small k =
+      bit_of (three a b c) Done c p u small k (λ i. last_append 0 (two a b) (looked lists x Done c) (word_at (low_in lists) x Done) ∙ last_hit (last_value 0 (two a b) (word_at (low_in lists) x Done)) Done c i) (three_none a b c)
 
   -- ---- The status.
 
   abbrev pub IsStatus : View → View → Option Status → Type 0
-  IsStatus v v' s = (loads : List Load) × Reads lists x (words_of s) loads v v' × (s ≡ status_seen lists loads x)
+  IsStatus v v' s = (loads : List Load) × ReadsStatus made lists x s loads v v'
 
-  pub not_begun : (a : ℕ) (v v1 : View) → Looked lists x Registered a → v1 ≡ with_loads (looked lists x Registered a) v → is_bit_set a 0 ≡ false → IsStatus v v1 None
+  two_view : (a b : ℕ) (v v1 v2 : View) → v1 ≡ with_loads (looked lists x Registered a) v → v2 ≡ with_loads (looked lists x Decided b) v1 → v2 ≡ with_loads (two a b) v
+  two_view a b v v1 v2 e f =
+      f ∙ (ap (with_loads (looked lists x Decided b)) e ∙ ap (λ ms. record { rows = v.rows; loads = ms }) (append_assoc v.loads (looked lists x Registered a) (looked lists x Decided b)))
+
+  two_found : (a b : ℕ) (v v1 : View) → Looked made lists x Registered a v → Looked made lists x Decided b v1 → v1 ≡ with_loads (looked lists x Registered a) v → made → AreFound lists v (two a b)
+  two_found a b v v1 k l e m =
+      found_append lists v (looked lists x Registered a) (looked lists x Decided b) (found_one made lists x Registered a v k m) (subst (λ u. AreFound lists u (looked lists x Decided b)) e (found_one made lists x Decided b v1 l m))
+
+  pub not_begun : (a : ℕ) (v v1 : View) → Looked made lists x Registered a v → v1 ≡ with_loads (looked lists x Registered a) v → is_bit_set a 0 ≡ false → IsStatus v v1 None
   not_begun a v v1 k e h =
       let ls = looked lists x Registered a in (
         ls,
-        one_reads Registered a v v1 e,
-        sym (ap (λ t. status_by t (bit_seen lists ls x Decided 0) (bit_seen lists ls x Decided 1) (bit_seen lists ls x Done 0)) (one_bit Registered a 0 (omega arith) k ∙ h)),
+        record {
+          reads = one_reads Registered a v v1 k e;
+          is = sym (ap (λ t. status_by t (bit_seen lists ls x Decided 0) (bit_seen lists ls x Decided 1) (bit_seen lists ls x Done 0)) (one_bit Registered a 0 v (omega arith) k ∙ h));
+        },
       )
 
-  pub still_open : (a b : ℕ) (v v1 v2 : View) → Looked lists x Registered a → Looked lists x Decided b → v1 ≡ with_loads (looked lists x Registered a) v → v2 ≡ with_loads (looked lists x Decided b) v1
+  pub still_open : (a b : ℕ) (v v1 v2 : View) → Looked made lists x Registered a v → Looked made lists x Decided b v1 → v1 ≡ with_loads (looked lists x Registered a) v → v2 ≡ with_loads (looked lists x Decided b) v1
       → is_bit_set a 0 ≡ true → is_bit_set b 0 ≡ false → is_bit_set b 1 ≡ false → IsStatus v v2 (Some Open)
   still_open a b v v1 v2 k l e f h c d =
       let ls = two a b in (
         ls,
-        record { view = f ∙ (ap (with_loads (looked lists x Decided b)) e ∙ ap (λ ms. record { rows = v.rows; loads = ms }) (append_assoc v.loads (looked lists x Registered a) (looked lists x Decided b))); places = two_places a b },
-        sym (ap (λ t. status_by t (bit_seen lists ls x Decided 0) (bit_seen lists ls x Decided 1) (bit_seen lists ls x Done 0)) (two_registered a b 0 (omega arith) k ∙ h)
-            ∙ (ap (λ t. status_by true t (bit_seen lists ls x Decided 1) (bit_seen lists ls x Done 0)) (two_decided a b 0 (omega arith) l ∙ c) ∙ ap (λ t. status_by true false t (bit_seen lists ls x Done 0)) (two_decided a b 1 (omega arith) l ∙ d))),
+        record {
+          reads = record { view = two_view a b v v1 v2 e f; places = two_places a b; found = two_found a b v v1 k l e };
+          is = sym (ap (λ t. status_by t (bit_seen lists ls x Decided 0) (bit_seen lists ls x Decided 1) (bit_seen lists ls x Done 0)) (two_registered a b 0 v (omega arith) k ∙ h)
+              ∙ (ap (λ t. status_by true t (bit_seen lists ls x Decided 1) (bit_seen lists ls x Done 0)) (two_decided a b 0 v1 (omega arith) l ∙ c) ∙ ap (λ t. status_by true false t (bit_seen lists ls x Done 0)) (two_decided a b 1 v1 (omega arith) l ∙ d)));
+        },
       )
 
-  decided_words : (made lost shut : Bool) → ((made ≡ false) × (lost ≡ false) → ⊥) → words_of (status_by true made lost shut) ≡ Registered ∷ Decided ∷ Done ∷ []
+  decided_words : (sent lost shut : Bool) → ((sent ≡ false) × (lost ≡ false) → ⊥) → words_of (status_by true sent lost shut) ≡ Registered ∷ Decided ∷ Done ∷ []
   decided_words true lost true m = refl
   decided_words true lost false m = refl
   decided_words false true true m = refl
   decided_words false true false m = refl
   decided_words false false shut m = absurd (m (refl, refl))
 
-  pub once_decided : (a b c : ℕ) (v v1 v2 v3 : View) → Looked lists x Registered a → Looked lists x Decided b → Looked lists x Done c
+  pub once_decided : (a b c : ℕ) (v v1 v2 v3 : View) → Looked made lists x Registered a v → Looked made lists x Decided b v1 → Looked made lists x Done c v2
       → v1 ≡ with_loads (looked lists x Registered a) v → v2 ≡ with_loads (looked lists x Decided b) v1 → v3 ≡ with_loads (looked lists x Done c) v2
       → is_bit_set a 0 ≡ true → ((is_bit_set b 0 ≡ false) × (is_bit_set b 1 ≡ false) → ⊥) → IsStatus v v3 (status_by true (is_bit_set b 0) (is_bit_set b 1) (is_bit_set c 0))
   once_decided a b c v v1 v2 v3 k l m e f g h d =
       let ls = three a b c in (
         ls,
         record {
-          view = g ∙ (ap (with_loads (looked lists x Done c)) (f ∙ (ap (with_loads (looked lists x Decided b)) e ∙ ap (λ ms. record { rows = v.rows; loads = ms }) (append_assoc v.loads (looked lists x Registered a) (looked lists x Decided b))))
-              ∙ ap (λ ms. record { rows = v.rows; loads = ms }) (append_assoc v.loads (two a b) (looked lists x Done c)));
-          places = three_places a b c ∙ ap (word_places lists x) (sym (decided_words (is_bit_set b 0) (is_bit_set b 1) (is_bit_set c 0) d));
+          reads = record {
+            view = g ∙ (ap (with_loads (looked lists x Done c)) front ∙ ap (λ ms. record { rows = v.rows; loads = ms }) (append_assoc v.loads (two a b) (looked lists x Done c)));
+            places = three_places a b c ∙ ap (word_places lists x) (sym (decided_words (is_bit_set b 0) (is_bit_set b 1) (is_bit_set c 0) d));
+            found = λ q. found_append lists v (two a b) (looked lists x Done c) (two_found a b v v1 k l e q) (subst (λ u. AreFound lists u (looked lists x Done c)) front (found_one made lists x Done c v2 m q));
+          };
+          is = sym (ap (λ t. status_by t (bit_seen lists ls x Decided 0) (bit_seen lists ls x Decided 1) (bit_seen lists ls x Done 0))
+              (three_old a b c 0 Registered a v (λ q. omega (arith, q)) (omega arith) k
+              (λ i. last_append 0 (looked lists x Registered a) (looked lists x Decided b) (word_at (low_in lists) x Registered) ∙ (last_miss (last_value 0 (looked lists x Registered a) (word_at (low_in lists) x Registered)) Decided Registered b (λ q. omega (arith, q)) ∙ last_hit 0 Registered a i)) ∙ h)
+              ∙ (ap (λ t. status_by true t (bit_seen lists ls x Decided 1) (bit_seen lists ls x Done 0)) (three_old a b c 0 Decided b v1 (λ q. omega (arith, q)) (omega arith) l dec)
+              ∙ (ap (λ t. status_by true (is_bit_set b 0) t (bit_seen lists ls x Done 0)) (three_old a b c 1 Decided b v1 (λ q. omega (arith, q)) (omega arith) l dec)
+              ∙ ap (λ t. status_by true (is_bit_set b 0) (is_bit_set b 1) t) (three_done a b c 0 v2 (omega arith) m))));
         },
-        sym (ap (λ t. status_by t (bit_seen lists ls x Decided 0) (bit_seen lists ls x Decided 1) (bit_seen lists ls x Done 0))
-            (three_old a b c 0 Registered a (λ q. omega (arith, q)) (omega arith) k
-            (λ i. last_append 0 (looked lists x Registered a) (looked lists x Decided b) (word_at (low_in lists) x Registered) ∙ (last_miss (last_value 0 (looked lists x Registered a) (word_at (low_in lists) x Registered)) Decided Registered b (λ q. omega (arith, q)) ∙ last_hit 0 Registered a i)) ∙ h)
-            ∙ (ap (λ t. status_by true t (bit_seen lists ls x Decided 1) (bit_seen lists ls x Done 0)) (three_old a b c 0 Decided b (λ q. omega (arith, q)) (omega arith) l dec)
-            ∙ (ap (λ t. status_by true (is_bit_set b 0) t (bit_seen lists ls x Done 0)) (three_old a b c 1 Decided b (λ q. omega (arith, q)) (omega arith) l dec)
-            ∙ ap (λ t. status_by true (is_bit_set b 0) (is_bit_set b 1) t) (three_done a b c 0 (omega arith) m)))),
       )
     where
+      front : v2 ≡ with_loads (two a b) v
+      front = two_view a b v v1 v2 e f
+
       dec : is_in (low_in lists) window x ≡ true → last_value 0 (two a b) (word_at (low_in lists) x Decided) ≡ b
       dec i = last_append 0 (looked lists x Registered a) (looked lists x Decided b) (word_at (low_in lists) x Decided) ∙ last_hit (last_value 0 (looked lists x Registered a) (word_at (low_in lists) x Decided)) Decided b i

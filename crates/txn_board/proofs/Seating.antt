@@ -1,6 +1,6 @@
 -- Opening a board, dealing its rows to seats, joining seats, and closing the board.
-use Rattle.std.proofs.Common.{◌≡◌, ◌≢◌, ◌⊎◌, ⊎_elim, inl, inr, ℕ, zero, suc, ◌<◌, ◌≤◌, arith, Bool, true, false, ◌==◌, if◌then◌else◌, List, [], ◌∷◌, ◌++◌, length, get_or, set, refl, sym, ap, ◌∙◌, subst, length-append, append_assoc}
-use Rattle.std.proofs.lemmas.List.{length-map, length-set, get_or_past}
+use Rattle.std.proofs.Common.{◌≡◌, ◌≢◌, ◌⊎◌, ⊎_elim, inl, inr, ℕ, zero, suc, ◌+◌, ◌<◌, ◌≤◌, arith, Bool, true, false, ◌==◌, if◌then◌else◌, List, [], ◌∷◌, ◌++◌, length, get_or, set, refl, sym, ap, ◌∙◌, subst, length-append, append_assoc}
+use Rattle.std.proofs.lemmas.List.{length-map, length-set, get_or_past, append-nil}
 use Rattle.std.proofs.Math.Seq.{get_or-append_seam}
 use Rattle.std.proofs.lemmas.Bool.{eq-eqb, ne_eqb}
 use mathlib.Core.Option.{some, some-injective, some-ne-none}
@@ -8,8 +8,10 @@ use lib.ListN.{get_elem?}
 use native.Mathlib.Decide.{ℕ_discrete, dec_lt}
 use Rattle.atomic_table.specs.Table.{Splits, Joins, opening}
 use Rattle.atomic_table.specs.Table as table
-use Rattle.atomic_table.proofs.Lists.{at_set}
+use Rattle.atomic_table.proofs.Lists.{at_set, at_longer, at_last, set_here, set_else}
 use Rattle.txn_base.specs.declared.core_entry.CoreEntry.{CoreEntry}
+use Rattle.txn_model.specs.Coord.{count_new}
+use Rattle.txn_model.specs.Deadlines.{txn}
 use Rattle.txn_core.specs.declared.step.CoreRow.{CoreRow}
 use Rattle.txn_core.specs.declared.step.CoreStep.{CoreStep}
 use Rattle.txn_core.specs.declared.step.CoreStep.TheVariants as act
@@ -19,10 +21,10 @@ use Rattle.txn_core.specs.Kept.{resting_row, resting_core}
 use Rattle.txn_core.proofs.Laws.{stop_lawful}
 use Rattle.txn_board.specs.declared.view.SeatRow.{SeatRow}
 use Rattle.txn_board.specs.declared.view.View.{View}
-use Rattle.txn_board.specs.Words.{window, WordsSay}
+use Rattle.txn_board.specs.Words.{window, WordsSay, entries_of}
 use Rattle.txn_board.specs.Rows.{parts_in, list_in, low_in, AreSeatRows, NoneOf, AreApart, HasSeatRow, AreFrom, rows_from, opening_view, rest_rows, first_rows, rest_view, dealt_view, joined_view, spent_view, kept_rows}
-use Rattle.txn_board.specs.Rule.{LoadsHold, CanOpenBoard, Holds}
-use Rattle.txn_board.proofs.Steps.{settled_at, row_at, kept}
+use Rattle.txn_board.specs.Rule.{LoadsHold, HasSeat, CanOpenBoard, Holds}
+use Rattle.txn_board.proofs.Steps.{settled_at, row_at, kept, there_less, seat_set}
 
 -- ---- Opening.
 
@@ -47,6 +49,10 @@ one_view : (P : ℕ → View → Type 0) (v : View) → P 0 v → (id : ℕ) (u 
 one_view P v h zero u e = subst (P 0) (some-injective v u e) h
 one_view P v h (suc id) u e = absurd (some-ne-none u (sym e))
 
+has_from : (k : ℕ) (ls : List (List CoreEntry)) (p : ℕ) → k ≤ p → p < k + length ls → HasSeatRow p (rows_from k ls)
+has_from k [] p le lt = absurd (omega (arith, le, lt))
+has_from k (l ∷ ls) p le lt = elim (ℕ_discrete p k) [ yes e ↦ inl e | no n ↦ inr (has_from (suc k) ls p (omega (arith, le, n)) (omega (arith, lt))) ]
+
 pub opens : (lists : List (List CoreEntry)) (words : List ℕ) → CanOpenBoard lists → WordsSay (low_in lists) window words (list_in lists) → Holds lists (opening words [] (opening_view lists))
 opens lists words may say =
     record {
@@ -56,6 +62,9 @@ opens lists words may say =
       steps = [];
       reached = refl;
       words = subst (WordsSay (low_in lists) window words) (λ i p. sym (settled_at lists p) i) say;
+      settled_below = λ x p lt. ap (λ (r : CoreRow). entries_of (txn x) (r.settled ++ r.flight)) (row_at lists p) ∙ ap (entries_of (txn x)) (append-nil (list_in lists p));
+      fits = subst (λ (r : CoreRow). count_new (r.settled ++ r.flight) ≤ low_in lists + window) (sym (row_at lists 0)) (subst (λ l. count_new l ≤ low_in lists + window) (sym (append-nil (list_in lists 0))) may.fits);
+      seated = λ p lt. record { view = opening_view lists; there = refl; row = has_from 0 lists p (omega arith) (omega (arith, lt, length-map lists resting_row)) };
       rows = one_view (λ id u. AreSeatRows (resting_core lists) (λ _. 0) id u.rows) (opening_view lists) (fits_from (λ _. 0) lists [] 0 lists (λ _. refl) refl refl);
       apart = one_view (λ _ u. AreApart u.rows) (opening_view lists) (apart_from 0 lists);
       loads = one_view (λ _ u. LoadsHold words u.loads) (opening_view lists) tt;
@@ -106,6 +115,9 @@ deals lists id v = λ s h seat. go s h seat v.rows refl
       steps = h.steps;
       reached = h.reached;
       words = h.words;
+      settled_below = h.settled_below;
+      fits = h.fits;
+      seated = λ p lt. seats rows is p (h.seated p lt);
       rows = each (λ j u. AreSeatRows h.state owner' j u.rows) (rest_fit rows is) (first_fit rows is) (else_fit rows is);
       apart = each (λ _ u. AreApart u.rows) (rest_apart v.rows (h.apart id v seat)) (first_apart v.rows) (λ j u away e. h.apart j u e);
       loads = each (λ _ u. LoadsHold s.words u.loads) (h.loads id v seat) tt (λ j u away e. h.loads j u e);
@@ -130,6 +142,24 @@ deals lists id v = λ s h seat. go s h seat v.rows refl
             (at_set s.views id j (rest_view v) u t))
             (λ (t : (j ≡ new) × (dealt_view v ≡ u)). subst (λ n. P n u) (sym t.0) (subst (P new) t.1 right))
             (at_end (set s.views id (rest_view v)) (dealt_view v) u j e)
+
+        longer : (i p : ℕ) → HasSeat (set s.views id (rest_view v)) i p → HasSeat (set s.views id (rest_view v) ++ dealt_view v ∷ []) i p
+        longer i p k = record { view = k.view; there = at_longer (set s.views id (rest_view v)) (dealt_view v ∷ []) i k.view k.there; row = k.row }
+
+        seats : (rs : List SeatRow) → v.rows ≡ rs → (p : ℕ) → HasSeat s.views (h.owner p) p → HasSeat (set s.views id (rest_view v) ++ dealt_view v ∷ []) (owner_by rs p) p
+        seats [] e p k = longer (h.owner p) p (seat_set s.views id v (rest_view v) seat (h.owner p) p (λ has. absurd (subst (HasSeatRow p) e has)) k)
+        seats (r ∷ rs) e p k = pick (ℕ_discrete p r.part)
+          where
+            pick : Dec (p ≡ r.part) → HasSeat (set s.views id (rest_view v) ++ dealt_view v ∷ []) (given h.owner r.part new p) p
+            pick (yes q) =
+                record {
+                  view = dealt_view v;
+                  there = ap (get_elem? (set s.views id (rest_view v) ++ dealt_view v ∷ [])) (ap (given h.owner r.part new) q ∙ given_here h.owner r.part new) ∙ at_last (set s.views id (rest_view v)) (dealt_view v) new refl;
+                  row = subst (λ l. HasSeatRow p (first_rows l)) (sym e) (inl q);
+                }
+            pick (no n) =
+                subst (λ i. HasSeat (set s.views id (rest_view v) ++ dealt_view v ∷ []) i p) (sym (given_else h.owner r.part new p n))
+                (longer (h.owner p) p (seat_set s.views id v (rest_view v) seat (h.owner p) p (λ has. subst (λ l. HasSeatRow p (rest_rows l)) (sym e) (⊎_elim (λ q. absurd (n q)) (λ m. m) (subst (HasSeatRow p) e has))) k))
 
         rest_apart : (rs : List SeatRow) → AreApart rs → AreApart (rest_rows rs)
         rest_apart [] a = tt
@@ -192,6 +222,32 @@ apart_append : (c : CoreState) (owner : ℕ → ℕ) (id other : ℕ) (xs ys : L
 apart_append c owner id other [] ys n f g a b = b
 apart_append c owner id other (x ∷ xs) ys n f g a b = (none_append x.part xs ys a.0 (none_apart c owner x.part id other ys f.0.0 n g), apart_append c owner id other xs ys n f.1 g a.1 b)
 
+has_left : (p : ℕ) (xs ys : List SeatRow) → HasSeatRow p xs → HasSeatRow p (xs ++ ys)
+has_left p [] ys k = absurd k
+has_left p (x ∷ xs) ys k = ⊎_elim (λ e. inl e) (λ m. inr (has_left p xs ys m)) k
+
+has_right : (p : ℕ) (xs ys : List SeatRow) → HasSeatRow p ys → HasSeatRow p (xs ++ ys)
+has_right p [] ys k = k
+has_right p (x ∷ xs) ys k = inr (has_right p xs ys k)
+
+seat_moved : (s : table.State ℕ View) (id : ℕ) (v : View) (other : ℕ) (w : View) (owner : ℕ → ℕ) → get_elem? s.views id ≡ some v → get_elem? s.views other ≡ some w → other ≢ id
+    → (p : ℕ) → HasSeat s.views (owner p) p → HasSeat (set (set s.views id (joined_view v w)) other spent_view) (moved owner other id p) p
+seat_moved s id v other w owner seat its away p k = go (ℕ_discrete (owner p) other)
+  where
+    go : Dec (owner p ≡ other) → HasSeat (set (set s.views id (joined_view v w)) other spent_view) (moved owner other id p) p
+    go (yes e) =
+        let is : k.view ≡ w = some-injective k.view w (sym k.there ∙ (ap (get_elem? s.views) e ∙ its)) in
+        subst (λ i. HasSeat (set (set s.views id (joined_view v w)) other spent_view) i p) (sym (moved_here owner other id p e))
+        (record {
+          view = joined_view v w;
+          there = set_else (set s.views id (joined_view v w)) other id spent_view (λ q. away (sym q)) ∙ set_here s.views id (joined_view v w) (there_less s.views id v seat);
+          row = has_right p v.rows w.rows (subst (λ (u : View). HasSeatRow p u.rows) is k.row);
+        })
+    go (no n) =
+        let first : HasSeat (set s.views id (joined_view v w)) (owner p) p = seat_set s.views id v (joined_view v w) seat (owner p) p (has_left p v.rows w.rows) k in
+        subst (λ i. HasSeat (set (set s.views id (joined_view v w)) other spent_view) i p) (sym (moved_else owner other id p (owner p) refl n))
+        (record { view = first.view; there = set_else (set s.views id (joined_view v w)) other (owner p) spent_view n ∙ first.there; row = first.row })
+
 pub joins : (lists : List (List CoreEntry)) (id : ℕ) (v : View) (other : ℕ) (w : View) → Joins (Holds lists) id v other w (joined_view v w) spent_view
 joins lists id v other w = λ s h seat n there.
     let n' : other ≢ id = n in
@@ -205,6 +261,9 @@ joins lists id v other w = λ s h seat n there.
       steps = h.steps;
       reached = h.reached;
       words = h.words;
+      settled_below = h.settled_below;
+      fits = h.fits;
+      seated = λ p lt. seat_moved s id v other w h.owner seat its n' p (h.seated p lt);
       rows = each s id both other (λ j u. AreSeatRows h.state (moved h.owner other id) j u.rows)
           (fit_append h.state (moved h.owner other id) id v.rows w.rows (fit_else h.state h.owner other id id v.rows (λ e. n' (sym e)) (h.rows id v seat)) (fit_from h.state h.owner other id w.rows (h.rows other w its)))
           tt (λ j u a b e. fit_else h.state h.owner other id j u.rows b (h.rows j u e));
@@ -276,3 +335,13 @@ closes lists s id v h seat all stays =
     go : (p : ℕ) → Dec (p < length h.state.rows) → kept_rows v.rows stays p ≡ kept_of h.state stays p
     go p (yes lt) = at_row h.state h.owner id p stays v.rows (h.rows id v seat) (all p (subst (λ n. p < n) (rows_of lists s h) lt))
     go p (no n) = no_list h.state h.owner id p stays v.rows (h.rows id v seat) (omega (arith, n)) ∙ sym (none_kept h.state stays p (omega (arith, n)))
+
+-- ---- One seat for each part.
+
+owner_is : (c : CoreState) (owner : ℕ → ℕ) (id p : ℕ) (rs : List SeatRow) → AreSeatRows c owner id rs → HasSeatRow p rs → owner p ≡ id
+owner_is c owner id p [] f k = absurd k
+owner_is c owner id p (r ∷ rs) f k = ⊎_elim (λ e. ap owner e ∙ f.0.0) (λ m. owner_is c owner id p rs f.1 m) k
+
+-- two seats with a row of one part are one seat
+pub one_seat : (lists : List (List CoreEntry)) (s : table.State ℕ View) (h : Holds lists s) (id other : ℕ) (v w : View) (p : ℕ) → get_elem? s.views id ≡ some v → get_elem? s.views other ≡ some w → HasSeatRow p v.rows → HasSeatRow p w.rows → id ≡ other
+one_seat lists s h id other v w p seat its k m = sym (owner_is h.state h.owner id p v.rows (h.rows id v seat) k) ∙ owner_is h.state h.owner other p w.rows (h.rows other w its) m

@@ -1,9 +1,10 @@
 -- The first entry in flight of the one row of a seat settles, and its bit is set.
-use Rattle.std.proofs.Common.{◌≡◌, ℕ, ◌+◌, ◌*◌, ◌^◌, ◌==◌, ◌<◌, ◌≤◌, arith, Bool, true, false, not, ◌&&◌, ◌||◌, if◌then◌else◌, List, [], ◌∷◌, ◌++◌, length, set, take, Option, Some, None, refl, sym, ap, ◌∙◌, subst}
+use Rattle.std.proofs.Common.{◌≡◌, ℕ, ◌+◌, ◌*◌, ◌^◌, ◌==◌, ◌<◌, ◌≤◌, arith, Bool, true, false, not, ◌&&◌, ◌||◌, if◌then◌else◌, List, [], ◌∷◌, ◌++◌, length, set, take, drop, Option, Some, None, refl, sym, ap, ◌∙◌, subst, append_assoc}
 use Rattle.std.specs.Prelude.{slice_index, nat_lt, nat_le}
 use Rattle.std.specs.Int.Bits.{bit_or, or_zero_r}
 use Rattle.std.proofs.lemmas.Bool.{eq-eqb, ne_eqb, lt-ltb, lt-leb, le-ltb, le-leb}
-use Rattle.std.proofs.lemmas.List.{get_or-set_same, get_or-set_other, set-get_or}
+use Rattle.std.proofs.lemmas.List.{get_or-set_same, get_or-set_other, set-get_or, take-append-drop}
+use Rattle.std.proofs.lemmas.List.Elements.{filter-append}
 use mathlib.Core.Option.{some}
 use lib.ListN.{get_elem?}
 use native.Mathlib.Decide.{ℕ_discrete}
@@ -13,7 +14,7 @@ use Rattle.txn_base.specs.declared.core_entry.CoreEntry.TheVariants as core
 use Rattle.txn_board.specs.declared.words.Mark.{Mark}
 use Rattle.txn_base.specs.declared.txn.Decision.{Decision}
 use Rattle.txn_base.specs.declared.txn.Decision.TheVariants.{Commit, Abort}
-use Rattle.txn_model.specs.Coord.{closing_skeleton}
+use Rattle.txn_model.specs.Coord.{closing_skeleton, count_new}
 use Rattle.txn_model.specs.Deadlines.{txn}
 use Rattle.txn_board.specs.declared.words.Word.TheVariants.{Done}
 use Rattle.txn_model.proofs.Laws.Tests.{and_both, no_true}
@@ -23,12 +24,13 @@ use Rattle.txn_core.specs.Steps.{no_row, row_of, settled_of, flight_of, with_row
 use Rattle.txn_board.specs.declared.view.SeatRow.{SeatRow}
 use Rattle.txn_board.specs.declared.view.Load.{Load}
 use Rattle.txn_board.specs.declared.view.View.{View}
-use Rattle.txn_board.specs.Words.{window, WordsSay, mark_where, mark_of, with_mark, with_more, word_at, set_bit}
+use Rattle.txn_board.specs.Words.{window, is_of, entries_of, WordsSay, mark_where, mark_of, with_mark, with_more, word_at, set_bit}
 use Rattle.txn_board.specs.Rows.{IsNumberOf, low_in, with_row_by, settle_view, drop_view, loaded}
 use Rattle.txn_board.specs.Rule.{LoadsHold, Holds, AllowsTo}
 use Rattle.txn_board.specs.Calls.{IsSettling, MayDrop, IsSetting, is_quiet, IsSettlingOwn, IsEnding, end_entry, ending_mark}
 use Rattle.txn_board.proofs.Marks.{noted, in_by}
-use Rattle.txn_board.proofs.Steps.{mine, row_changes, row_stays, loads_grow, loads_more, marked_grows}
+use Rattle.txn_board.proofs.Entries.{count_more}
+use Rattle.txn_board.proofs.Steps.{RowStays, below_settled, row_fits, mine, row_changes, row_stays, loads_grow, loads_more, marked_grows}
 
 module _ (lists : List (List CoreEntry)) (s : table.State ℕ View) (h : Holds lists s) (id : ℕ) (v : View) (seat : get_elem? s.views id ≡ some v) (r : SeatRow) (is : v.rows ≡ r ∷ []) where
   flying : (e : CoreEntry) (rest : List CoreEntry) → r.row.flight ≡ e ∷ rest → is_flying h.state r.part ≡ true
@@ -41,13 +43,19 @@ module _ (lists : List (List CoreEntry)) (s : table.State ℕ View) (h : Holds l
       → (next : View) → next.rows ≡ with_row_by settle_row v.rows → LoadsHold s.words next.loads
       → Holds lists (record { words = words; homes = s.homes; views = set s.views id next })
   settles_to e rest f words bits next rows' loads' =
-      row_changes lists s h id v seat r is (act.Settle r.part) (flying e rest f) (settle_row r.row) (ap (λ x. with_row h.state r.part (settle_row x)) m.2) next (rows' ∙ ap (with_row_by settle_row) is) words
+      row_changes lists s h id v seat r is (act.Settle r.part) (flying e rest f) (settle_row r.row) keep (ap (λ x. with_row h.state r.part (settle_row x)) m.2) next (rows' ∙ ap (with_row_by settle_row) is) words
       (subst (λ ws. WordsSay (low_in lists) window ws (settled_of (with_row h.state r.part (settle_row r.row)))) (sym bits)
       (subst (WordsSay (low_in lists) window (with_mark (low_in lists) window (mark_of r.part e) s.words)) (λ j q. sym (more q) j) (noted (low_in lists) window s.words (settled_of h.state) r.part e h.words)))
       grow (grow next.loads loads')
     where
       m : (h.owner r.part ≡ id) × (r.part < length h.state.rows) × (row_of h.state r.part ≡ r.row)
       m = mine lists s h id v seat r is
+
+      same : (r.row.settled ++ take 1 r.row.flight) ++ drop 1 r.row.flight ≡ r.row.settled ++ r.row.flight
+      same = append_assoc r.row.settled (take 1 r.row.flight) (drop 1 r.row.flight) ∙ ap (λ l. r.row.settled ++ l) (take-append-drop 1 r.row.flight)
+
+      keep : RowStays lists r (settle_row r.row)
+      keep = record { below = λ x lt. ap (entries_of (txn x)) same; fits = λ z. subst (λ l. count_new l ≤ low_in lists + window) (sym same) (row_fits lists s h id v seat r is z) }
 
       grow : (ls : List Load) → LoadsHold s.words ls → LoadsHold words ls
       grow ls k = subst (λ ws. LoadsHold ws ls) (sym bits) (loads_grow s.words (with_mark (low_in lists) window (mark_of r.part e) s.words) (marked_grows (low_in lists) window (mark_of r.part e) s.words h.words.size) ls k)
@@ -67,9 +75,16 @@ module _ (lists : List (List CoreEntry)) (s : table.State ℕ View) (h : Holds l
       → Holds lists (record { words = set s.words i (slice_index s.words i); homes = s.homes; views = set s.views id (loaded i (slice_index s.words i) (drop_view v)) })
   drops_to e rest f sure i =
       let m = mine lists s h id v seat r is in
+      let keep : RowStays lists r (stop_row false r.row) =
+      record {
+        below = λ x lt.
+            let none : entries_of (txn x) r.row.flight ≡ [] = ap (entries_of (txn x)) (sym (ap (λ (k : CoreRow). k.flight) m.2)) ∙ (below_settled lists s h x r.part lt).1 in
+            filter-append (is_of (txn x)) r.row.settled [] ∙ (ap (λ l. entries_of (txn x) r.row.settled ++ l) (sym none) ∙ sym (filter-append (is_of (txn x)) r.row.settled r.row.flight));
+        fits = λ z. let none : count_new [] ≡ 0 = refl in omega (arith, count_more r.row.settled [], count_more r.row.settled r.row.flight, none, row_fits lists s h id v seat r is z);
+      } in
       row_stays lists s h id v seat r is (act.Stop r.part false)
       (and_both (is_flying h.state r.part) (false || not (row_of h.state r.part).sure) (flying e rest f) (ap (λ b. false || not b) (ap (λ (x : CoreRow). x.sure) m.2 ∙ sure)))
-      (stop_row false r.row) (ap (λ x. with_row h.state r.part (stop_row false x)) m.2) refl (loaded i (slice_index s.words i) (drop_view v)) (ap (with_row_by (stop_row false)) is) i refl
+      (stop_row false r.row) keep (ap (λ x. with_row h.state r.part (stop_row false x)) m.2) refl (loaded i (slice_index s.words i) (drop_view v)) (ap (with_row_by (stop_row false)) is) i refl
 
 -- a step on a word at which the bit of the entry is set
 pub settles : (lists : List (List CoreEntry)) (id : ℕ) (v : View) (part : ℕ) (e : CoreEntry) (i : ℕ) (f : ℕ → ℕ) → IsSettling part e v

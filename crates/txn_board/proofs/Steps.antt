@@ -1,32 +1,36 @@
 -- A step at which the one row of a seat changes as the core's row does, or at which none changes.
-use Rattle.std.proofs.Common.{◌≡◌, ◌≢◌, inl, inr, ℕ, zero, suc, ◌*◌, ◌^◌, ◌<◌, ◌≤◌, arith, Bool, true, false, if◌then◌else◌, List, [], ◌∷◌, ◌++◌, length, set, Some, None, refl, sym, ap, ◌∙◌, subst, max}
+use Rattle.std.proofs.Common.{◌≡◌, ◌≢◌, inl, inr, ℕ, zero, suc, ◌+◌, ◌*◌, ◌^◌, ◌<◌, ◌≤◌, arith, Bool, true, false, if◌then◌else◌, List, [], ◌∷◌, ◌++◌, length, set, Some, None, refl, sym, ap, ◌∙◌, subst, max}
 use Rattle.std.specs.Prelude.{Option, slice_index, slice_index_or, map}
 use Rattle.std.specs.Int.{bit_at}
 use Rattle.std.specs.Int.Bits.{bit_or}
 use Rattle.std.proofs.lemmas.Nat.Bits.{bit_at_or}
-use Rattle.std.proofs.lemmas.List.{get_or-set_same, get_or-set_other, set-get_or, length-set}
+use Rattle.std.proofs.lemmas.List.{get_or-set_same, get_or-set_other, set-get_or, length-set, append-nil}
+use Rattle.std.proofs.lemmas.List.Elements.{filter-append}
 use mathlib.Core.List.{IsPrefix}
-use mathlib.Core.Option.{some}
+use mathlib.Core.Option.{some, some-injective, some-ne-none}
 use lib.ListN.{get_elem?}
 use native.Mathlib.Decide.{ℕ_discrete}
 use Rattle.atomic_table.specs.Table.{Allows, keeps}
 use Rattle.atomic_table.specs.Table as table
-use Rattle.atomic_table.proofs.Lists.{at_set}
+use Rattle.atomic_table.proofs.Lists.{at_set, set_here, set_else}
 use Rattle.txn_base.specs.declared.core_entry.CoreEntry.{CoreEntry}
+use Rattle.txn_model.specs.Coord.{count_new, CoordLawful}
+use Rattle.txn_model.specs.Deadlines.{txn}
 use Rattle.txn_core.specs.declared.step.CoreRow.{CoreRow}
 use Rattle.txn_core.specs.declared.step.CoreStep.{CoreStep}
 use Rattle.txn_core.specs.Together.{AreLawful}
-use Rattle.txn_core.specs.Steps.{CoreState, no_row, row_of, settled_of, with_row, can, core_after, run}
+use Rattle.txn_core.specs.Steps.{CoreState, no_row, row_of, settled_of, flight_of, with_row, can, core_after, run}
 use Rattle.txn_core.specs.Kept.{CoreInvariant, resting_row, resting_core}
-use Rattle.txn_core.proofs.Laws.{run_keeps, run-append, opened_kept, run_longer}
+use Rattle.txn_core.proofs.Laws.{alone_front, alone_log, run_keeps, run-append, opened_kept, run_longer}
 use Rattle.txn_board.specs.declared.view.SeatRow.{SeatRow}
 use Rattle.txn_board.specs.declared.view.Load.{Load}
 use Rattle.txn_board.specs.declared.view.View.{View}
 use Rattle.txn_board.specs.declared.words.Mark.{Mark}
-use Rattle.txn_board.specs.Words.{window, is_in, word_at, WordsSay, set_bit, with_mark}
-use Rattle.txn_board.specs.Rows.{parts_in, list_in, low_in, AreSeatRows, AreApart, loaded}
-use Rattle.txn_board.specs.Rule.{LoadsHold, Holds, AllowsTo}
+use Rattle.txn_board.specs.Words.{window, is_in, word_at, WordsSay, set_bit, with_mark, is_of, entries_of}
+use Rattle.txn_board.specs.Rows.{parts_in, list_in, low_in, AreSeatRows, AreApart, HasSeatRow, loaded}
+use Rattle.txn_board.specs.Rule.{LoadsHold, HasSeat, Holds, AllowsTo, Found}
 use Rattle.txn_board.proofs.Marks.{in_of, place_within}
+use Rattle.txn_board.proofs.Entries.{cut_off}
 
 -- ---- The core's state.
 
@@ -49,6 +53,21 @@ kept lists s h =
 pub begins_as : (lists : List (List CoreEntry)) (s : table.State ℕ View) (h : Holds lists s) (p : ℕ) → IsPrefix (list_in lists p) (settled_of h.state p)
 begins_as lists s h p =
     subst (λ l. IsPrefix l (settled_of h.state p)) (settled_at lists p) (subst (λ c. IsPrefix (settled_of (resting_core lists) p) (settled_of c p)) h.reached (run_longer (parts_in lists) (resting_core lists) h.steps p))
+
+-- the coordinator's settled list is a lawful log
+pub log_lawful : (lists : List (List CoreEntry)) (s : table.State ℕ View) (h : Holds lists s) → CoordLawful (parts_in lists) (settled_of h.state 0)
+log_lawful lists s h = alone_log (parts_in lists) (settled_of h.state 0) (alone_front (parts_in lists) 0 (settled_of h.state 0) (flight_of h.state 0) ((kept lists s h).stands.alone 0))
+
+-- below the low watermark the settled entries are those of the opening, and none is in flight
+pub below_settled : (lists : List (List CoreEntry)) (s : table.State ℕ View) (h : Holds lists s) (x p : ℕ) → x < low_in lists
+    → (entries_of (txn x) (settled_of h.state p) ≡ entries_of (txn x) (list_in lists p)) × (entries_of (txn x) (flight_of h.state p) ≡ [])
+below_settled lists s h x p lt =
+    let b = begins_as lists s h p in
+    let e : entries_of (txn x) ((list_in lists p ++ b.0) ++ flight_of h.state p) ≡ entries_of (txn x) (list_in lists p) = ap (λ l. entries_of (txn x) (l ++ flight_of h.state p)) b.1 ∙ h.settled_below x p lt in
+    let c = cut_off (is_of (txn x)) (list_in lists p) b.0 (flight_of h.state p) e in (
+      ap (entries_of (txn x)) (sym b.1) ∙ (filter-append (is_of (txn x)) (list_in lists p) b.0 ∙ (ap (λ l. entries_of (txn x) (list_in lists p) ++ l) c.0 ∙ append-nil (entries_of (txn x) (list_in lists p)))),
+      c.1,
+    )
 
 -- one step more
 reached_more : (lists : List (List CoreEntry)) (steps : List CoreStep) (state : CoreState) (st : CoreStep) → run (parts_in lists) steps (resting_core lists) ≡ state → can (parts_in lists) state st ≡ true
@@ -104,6 +123,31 @@ views_set P views id w new old j u e =
       | inr t ↦ old j u t.0 t.1
     ]
 
+-- ---- The seats of the parts.
+
+pub there_less : {A : Type 0} (l : List A) (i : ℕ) (a : A) → get_elem? l i ≡ some a → i < length l
+there_less [] i a e = absurd (some-ne-none a (sym e))
+there_less (x ∷ xs) zero a e = omega arith
+there_less (x ∷ xs) (suc i) a e = let k = there_less xs i a e in omega (arith, k)
+
+-- a view takes the place of one, and has the part if this had it
+pub seat_set : (views : List View) (id : ℕ) (v w : View) → get_elem? views id ≡ some v → (i p : ℕ) → (HasSeatRow p v.rows → HasSeatRow p w.rows) → HasSeat views i p → HasSeat (set views id w) i p
+seat_set views id v w at i p more k = go (ℕ_discrete i id)
+  where
+    go : Dec (i ≡ id) → HasSeat (set views id w) i p
+    go (yes e) =
+        record {
+          view = w;
+          there = ap (get_elem? (set views id w)) e ∙ set_here views id w (there_less views id v at);
+          row = more (subst (λ (u : View). HasSeatRow p u.rows) (some-injective k.view v (sym k.there ∙ (ap (get_elem? views) e ∙ at))) k.row);
+        }
+    go (no n) = record { view = k.view; there = set_else views id i w n ∙ k.there; row = k.row }
+
+-- what else a row keeps that takes the place of a seat's
+pub record RowStays (lists : List (List CoreEntry)) (r : SeatRow) (row : CoreRow) : Type 0 where
+  pub below : (x : ℕ) → x < low_in lists → entries_of (txn x) (row.settled ++ row.flight) ≡ entries_of (txn x) (r.row.settled ++ r.row.flight)
+  pub fits : r.part ≡ 0 → count_new (row.settled ++ row.flight) ≤ low_in lists + window
+
 module _ (lists : List (List CoreEntry)) (s : table.State ℕ View) (h : Holds lists s) (id : ℕ) (v : View) (seat : get_elem? s.views id ≡ some v) where
   -- no row changes, and the word i was loaded
   pub looks : (i : ℕ) → Holds lists (record { words = set s.words i (slice_index s.words i); homes = s.homes; views = set s.views id (loaded i (slice_index s.words i) v) })
@@ -115,6 +159,9 @@ module _ (lists : List (List CoreEntry)) (s : table.State ℕ View) (h : Holds l
         steps = h.steps;
         reached = h.reached;
         words = subst (λ ws. WordsSay (low_in lists) window ws (settled_of h.state)) (sym same) h.words;
+        settled_below = h.settled_below;
+        fits = h.fits;
+        seated = λ p lt. seat_set s.views id v next seat (h.owner p) p (λ k. k) (h.seated p lt);
         rows = views_set (λ j u. AreSeatRows h.state h.owner j u.rows) s.views id next (h.rows id v seat) (λ j u away e. h.rows j u e);
         apart = views_set (λ j u. AreApart u.rows) s.views id next (h.apart id v seat) (λ j u away e. h.apart j u e);
         loads = subst (λ ws. (j : ℕ) (u : View) → get_elem? (set s.views id next) j ≡ some u → LoadsHold ws u.loads) (sym same)
@@ -131,11 +178,15 @@ module _ (lists : List (List CoreEntry)) (s : table.State ℕ View) (h : Holds l
     pub mine : (h.owner r.part ≡ id) × (r.part < length h.state.rows) × (row_of h.state r.part ≡ r.row)
     mine = (subst (λ l. AreSeatRows h.state h.owner id l) is (h.rows id v seat)).0
 
-    pub row_changes : (st : CoreStep) → can (parts_in lists) h.state st ≡ true → (row : CoreRow) → core_after h.state st ≡ with_row h.state r.part row
+    -- what the coordinator's row has begun, where it is this one
+    pub row_fits : r.part ≡ 0 → count_new (r.row.settled ++ r.row.flight) ≤ low_in lists + window
+    row_fits z = subst (λ (k : CoreRow). count_new (k.settled ++ k.flight) ≤ low_in lists + window) (ap (row_of h.state) (sym z) ∙ mine.2) h.fits
+
+    pub row_changes : (st : CoreStep) → can (parts_in lists) h.state st ≡ true → (row : CoreRow) → RowStays lists r row → core_after h.state st ≡ with_row h.state r.part row
         → (next : View) → next.rows ≡ record { part = r.part; row = row } ∷ [] → (words : List ℕ) → WordsSay (low_in lists) window words (settled_of (with_row h.state r.part row))
         → ((ls : List Load) → LoadsHold s.words ls → LoadsHold words ls) → LoadsHold words next.loads
         → Holds lists (record { words = words; homes = s.homes; views = set s.views id next })
-    row_changes st may row becomes next rows' words say old new =
+    row_changes st may row keep becomes next rows' words say old new =
         record {
           state = state';
           owner = h.owner;
@@ -143,6 +194,9 @@ module _ (lists : List (List CoreEntry)) (s : table.State ℕ View) (h : Holds l
           steps = h.steps ++ st ∷ [];
           reached = reached_more lists h.steps h.state st h.reached may ∙ becomes;
           words = say;
+          settled_below = λ x p lt. below x p lt (ℕ_discrete p r.part);
+          fits = log_fits (ℕ_discrete 0 r.part);
+          seated = λ p lt. seat_set s.views id v next seat (h.owner p) p (λ k. subst (HasSeatRow p) (sym rows') (subst (HasSeatRow p) is k)) (h.seated p (subst (λ n. p < n) (length-set h.state.rows r.part row) lt));
           rows = views_set (λ j u. AreSeatRows state' h.owner j u.rows) s.views id next here (λ j u away e. rows_else h.state h.owner id j r.part row u.rows mine.0 away (h.rows j u e));
           apart = views_set (λ j u. AreApart u.rows) s.views id next (subst AreApart (sym rows') (tt, tt)) (λ j u away e. h.apart j u e);
           loads = views_set (λ j u. LoadsHold words u.loads) s.views id next new (λ j u away e. old u.loads (h.loads j u e));
@@ -151,17 +205,28 @@ module _ (lists : List (List CoreEntry)) (s : table.State ℕ View) (h : Holds l
         state' : CoreState
         state' = with_row h.state r.part row
 
+        below : (x p : ℕ) → x < low_in lists → Dec (p ≡ r.part) → entries_of (txn x) (settled_of state' p ++ flight_of state' p) ≡ entries_of (txn x) (list_in lists p)
+        below x p lt (yes e) =
+            subst (λ q. entries_of (txn x) (settled_of state' q ++ flight_of state' q) ≡ entries_of (txn x) (list_in lists q)) (sym e)
+            (ap (λ (k : CoreRow). entries_of (txn x) (k.settled ++ k.flight)) (get_or-set_same h.state.rows r.part row no_row mine.1)
+            ∙ (keep.below x lt ∙ (sym (ap (λ (k : CoreRow). entries_of (txn x) (k.settled ++ k.flight)) mine.2) ∙ h.settled_below x r.part lt)))
+        below x p lt (no m) = ap (λ (k : CoreRow). entries_of (txn x) (k.settled ++ k.flight)) (get_or-set_other h.state.rows r.part p row no_row m) ∙ h.settled_below x p lt
+
+        log_fits : Dec (0 ≡ r.part) → count_new (settled_of state' 0 ++ flight_of state' 0) ≤ low_in lists + window
+        log_fits (yes e) = subst (λ (k : CoreRow). count_new (k.settled ++ k.flight) ≤ low_in lists + window) (sym (ap (row_of state') e ∙ get_or-set_same h.state.rows r.part row no_row mine.1)) (keep.fits (sym e))
+        log_fits (no m) = subst (λ (k : CoreRow). count_new (k.settled ++ k.flight) ≤ low_in lists + window) (sym (get_or-set_other h.state.rows r.part 0 row no_row m)) h.fits
+
         here : AreSeatRows state' h.owner id next.rows
         here =
             subst (λ l. AreSeatRows state' h.owner id l) (sym rows')
             ((mine.0, subst (λ n. r.part < n) (sym (length-set h.state.rows r.part row)) mine.1, get_or-set_same h.state.rows r.part row no_row mine.1), tt)
 
     -- the settled list of the row is as it was, and the word i was loaded
-    pub row_stays : (st : CoreStep) → can (parts_in lists) h.state st ≡ true → (row : CoreRow) → core_after h.state st ≡ with_row h.state r.part row → row.settled ≡ r.row.settled
+    pub row_stays : (st : CoreStep) → can (parts_in lists) h.state st ≡ true → (row : CoreRow) → RowStays lists r row → core_after h.state st ≡ with_row h.state r.part row → row.settled ≡ r.row.settled
         → (next : View) → next.rows ≡ record { part = r.part; row = row } ∷ [] → (i : ℕ) → next.loads ≡ v.loads ++ record { place = i; value = slice_index s.words i } ∷ []
         → Holds lists (record { words = set s.words i (slice_index s.words i); homes = s.homes; views = set s.views id next })
-    row_stays st may row becomes list next rows' i loads' =
-        row_changes st may row becomes next rows' (set s.words i (slice_index s.words i))
+    row_stays st may row keep becomes list next rows' i loads' =
+        row_changes st may row keep becomes next rows' (set s.words i (slice_index s.words i))
         (subst (λ ws. WordsSay (low_in lists) window ws (settled_of (with_row h.state r.part row))) (sym same) (subst (WordsSay (low_in lists) window s.words) (λ j q. sym (lists_same q) j) h.words))
         (subst (λ ws. (ls : List Load) → LoadsHold s.words ls → LoadsHold ws ls) (sym same) (λ ls k. k))
         (subst (λ ws. LoadsHold ws next.loads) (sym same) (subst (LoadsHold s.words) (sym loads') (loads_more s.words v.loads i (h.loads id v seat))))
@@ -183,3 +248,15 @@ module _ (lists : List (List CoreEntry)) (s : table.State ℕ View) (h : Holds l
 pub guarded : (φ : Type 0) (holds : table.State ℕ View → Type 0) (slots id : ℕ) (me : View × List (ℕ × ℕ)) (i : ℕ) (f : ℕ → ℕ) (next : ℕ → View) → (φ → AllowsTo holds id me.0 i f next)
     → Allows (λ s. φ → holds s) slots id me i f (λ n w. w ≡ (next n, me.1))
 guarded φ holds slots id me i f next allows = λ s h len seat fits. (next (slice_index s.words i), keeps, tt, (λ p. allows p s (h p) seat), refl)
+
+-- the same of a load, which shows what stood at its place
+pub guarded_found : (φ : Type 0) (key lists : List (List CoreEntry)) → key ≡ lists → (slots id : ℕ) (me : View × List (ℕ × ℕ)) (i : ℕ) (next : ℕ → View) → (φ → AllowsTo (Holds lists) id me.0 i (λ n. n) next)
+    → Allows (λ s. φ → Holds key s) slots id me i (λ n. n) (λ n w. (w ≡ (next n, me.1)) × (φ → Found lists i n me.0))
+guarded_found φ key lists same slots id me i next allows =
+    λ s h len seat fits. (
+      next (slice_index s.words i),
+      keeps,
+      tt,
+      (λ p. subst (λ (k : List (List CoreEntry)). Holds k (record { words = set s.words i (slice_index s.words i); homes = s.homes; views = set s.views id (next (slice_index s.words i)) })) (sym same) (allows p s (subst (λ (k : List (List CoreEntry)). Holds k s) same (h p)) seat)),
+      (refl, λ p. record { board = s; seat = id; rule = subst (λ (k : List (List CoreEntry)). Holds k s) same (h p); view = seat; stood = refl }),
+    )

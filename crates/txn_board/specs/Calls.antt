@@ -13,14 +13,15 @@ use Rattle.txn_board.specs.declared.view.View.{View}
 use Rattle.txn_board.specs.declared.words.Mark.{Mark}
 use Rattle.txn_board.specs.declared.words.OwnStart.{OwnStart}
 use Rattle.txn_board.specs.declared.words.OwnStart.TheVariants as own
-use Rattle.txn_board.specs.declared.words.Word.TheVariants.{Registered, Done}
-use Rattle.txn_board.specs.declared.words.Start.{Start}
-use Rattle.txn_board.specs.declared.words.Start.TheVariants as begin
+use Rattle.txn_board.specs.declared.words.Word.TheVariants.{Registered, Decided, Done}
+use Rattle.txn_board.specs.declared.words.RowStep.{RowStep}
+use Rattle.txn_board.specs.declared.words.RowStep.TheVariants as turn
 use Rattle.txn_board.specs.declared.words.Word.{Word}
 use Rattle.txn_board.specs.Seen.{decision_by}
 use Rattle.std.specs.List.{list_any}
-use Rattle.txn_board.specs.Words.{window, is_in, word_at, mark_of, is_bit_set, sets}
-use Rattle.txn_board.specs.Rows.{low_in, start_view}
+use Rattle.txn_board.specs.Words.{window, IsIn, is_in, word_at, mark_of, is_bit_set, sets}
+use Rattle.txn_board.specs.Rows.{low_in, start_view, settle_view, drop_view, loaded}
+use Rattle.txn_board.specs.Rule.{Holds, AllowsTo, Found}
 
 -- The seat has the row of this part alone, and this entry is the first in flight.
 pub record IsSettling (part : ℕ) (e : CoreEntry) (v : View) : Type 0 where
@@ -149,19 +150,58 @@ pub record MayClose (n x : ℕ) (v : View) : Type 0 where
 abbrev pub IsOfRow : ℕ → ℕ → View → Type 0
 IsOfRow reg x v = (r : SeatRow) → v.rows ≡ r ∷ [] → r.part ≡ 0 → (p : ℕ) → p < 64 → is_bit_set reg p ≡ list_any (sets Registered p (txn x)) r.row.settled
 
--- What starts by the value of the word that was loaded: messages or a hold where the part's bit is set; a marker where there
--- is a decision; a closing where each registered part is done.
-abbrev pub starts_of : Start → View → ℕ → List CoreEntry
-starts_of (begin.Own own) v n = own_entries own
-starts_of (begin.Inside x count part) v n = inside_where (bit_found part n) x count
-starts_of (begin.Marker x) v n = marker_where x (decision_by (is_bit_set n 0) (is_bit_set n 1))
-starts_of (begin.Close x reg) v n = closing_where (first_missing reg n) v.rows x
+-- What a load of this value makes of a view: entries start, of its own; messages or a hold where the part's bit is set; a
+-- marker where there is a decision; a closing where each registered part is done. Or the first entry in flight settles, or
+-- the flight is lost.
+abbrev pub row_step : RowStep → View → ℕ → View
+row_step (turn.Own own) v n = start_where (own_entries own) v
+row_step (turn.Inside x count part) v n = start_where (inside_where (bit_found part n) x count) v
+row_step (turn.Marker x) v n = start_where (marker_where x (decision_by (is_bit_set n 0) (is_bit_set n 1))) v
+row_step (turn.Close x reg) v n = start_where (closing_where (first_missing reg n) v.rows x) v
+row_step turn.Settle v n = settle_view v
+row_step turn.Lose v n = drop_view v
 
--- The place of the word of x that a start loads: word 0 where x isn't in the window.
-abbrev pub start_place : List (List CoreEntry) → ℕ → Word → ℕ
-start_place lists x w = if is_in (low_in lists) window x then word_at (low_in lists) x w else 0
+-- The rule lets a load of this place make that of a seat's view.
+abbrev pub AllowsStep : List (List CoreEntry) → ℕ → View → ℕ → RowStep → Type 0
+AllowsStep lists id v place step = AllowsTo (Holds lists) id v place (λ n. n) (λ n. loaded place n (row_step step v n))
+
+-- The place of the word of x in the window.
+abbrev pub start_place : List (List CoreEntry) → ℕ → Word → Option ℕ
+start_place lists x w = if is_in (low_in lists) window x then Some (word_at (low_in lists) x w) else None
 
 -- For messages or a hold: the part is another than the coordinator's.
 pub record MayStartIn (n x count : ℕ) (v : View) : Type 0 where
   pub may : MayStart n (replicate count (core.Inside (txn x))) v
   pub part : may.row.part ≢ 0
+
+-- The transaction of what a part starts of its own lies in the window.
+abbrev pub IsOwnIn : List (List CoreEntry) → OwnStart → Type 0
+IsOwnIn lists (own.Plain count) = Unit {0}
+IsOwnIn lists (own.New x) = IsIn (low_in lists) window x
+IsOwnIn lists (own.AddPart x part) = IsIn (low_in lists) window x
+IsOwnIn lists (own.Decide x decision) = IsIn (low_in lists) window x
+
+-- ---- What the starts tell.
+
+-- The call loaded this word of x, which showed the value n, and these entries started.
+pub record Starts (made : Type 0) (lists : List (List CoreEntry)) (x : ℕ) (w : Word) (n : ℕ) (es : List CoreEntry) (before now : View) : Type 0 where
+  pub view : now ≡ loaded (word_at (low_in lists) x w) n (start_where es before)
+  pub found : made → Found lists (word_at (low_in lists) x w) n before
+
+-- By the word of registered parts, messages or a hold started where the part's bit is set in it.
+pub record StartsInside (made : Type 0) (lists : List (List CoreEntry)) (x count n : ℕ) (told : Bool) (before now : View) : Type 0 where
+  pub starts : Starts made lists x Registered n (inside_where told x count) before now
+  pub is : (r : SeatRow) → before.rows ≡ r ∷ [] → told ≡ bit_found (Some r.part) n
+
+-- By the word of the decision, a marker started where there is one.
+pub record StartsMarker (made : Type 0) (lists : List (List CoreEntry)) (x n : ℕ) (told : Option Decision) (before now : View) : Type 0 where
+  pub starts : Starts made lists x Decided n (marker_where x told) before now
+  pub is : told ≡ decision_by (is_bit_set n 0) (is_bit_set n 1)
+
+-- By the word of registered parts, which is that of the coordinator's row, and then the word of those done, a closing started
+-- where no part is missing.
+pub record StartsClosing (made : Type 0) (lists : List (List CoreEntry)) (x reg done : ℕ) (missing : Option ℕ) (before now : View) : Type 0 where
+  pub looked : made → Found lists (word_at (low_in lists) x Registered) reg before
+  pub of_row : made → IsOfRow reg x before
+  pub starts : Starts made lists x Done done (closing_where missing before.rows x) (loaded (word_at (low_in lists) x Registered) reg before) now
+  pub least : missing ≡ first_missing reg done

@@ -1,17 +1,21 @@
 -- What a reader's answer is, by the loads that its call made.
-use Rattle.std.specs.Prelude.{◌≡◌, ℕ, ◌==◌, nat_lt, Bool, true, false, if◌then◌else◌, List, [], ◌∷◌, map, Option, Some, None}
+use Rattle.std.specs.Prelude.{◌≡◌, ◌<◌, ◌≤◌, ◌+◌, ◌&&◌, ℕ, ◌==◌, nat_le, nat_lt, Bool, true, false, if◌then◌else◌, List, [], ◌∷◌, map, Option, Some, None}
+use Rattle.std.specs.Int.{bit_at}
 use Rattle.txn_base.specs.declared.core_entry.CoreEntry.{CoreEntry}
 use Rattle.txn_base.specs.declared.txn.Decision.{Decision}
 use Rattle.txn_base.specs.declared.txn.Decision.TheVariants.{Commit, Abort}
 use Rattle.txn_base.specs.declared.txn.Status.{Status}
 use Rattle.txn_base.specs.declared.txn.Status.TheVariants.{Open, Committing, Committed, Aborting, Aborted}
+use Rattle.txn_model.specs.Coord.{status_of, decision_of, in_parts}
 use Rattle.txn_model.specs.Deadlines.{txn}
+use Rattle.txn_core.specs.Steps.{CoreState, settled_of}
 use Rattle.txn_board.specs.declared.view.Load.{Load}
 use Rattle.txn_board.specs.declared.view.View.{View}
 use Rattle.txn_board.specs.declared.words.Word.{Word}
 use Rattle.txn_board.specs.declared.words.Word.TheVariants.{Registered, Decided, Done}
-use Rattle.txn_board.specs.Words.{window, is_in, word_at, is_bit_set, tells}
+use Rattle.txn_board.specs.Words.{window, IsIn, is_in, word_at, as_bit, is_bit_set, tells}
 use Rattle.txn_board.specs.Rows.{list_in, low_in, with_loads}
+use Rattle.txn_board.specs.Rule.{Found, AreFound}
 
 abbrev pub place_of : Load → ℕ
 place_of l = l.place
@@ -62,7 +66,50 @@ word_places lists x ws = if is_in (low_in lists) window x then map (word_at (low
 abbrev pub looked : List (List CoreEntry) → ℕ → Word → ℕ → List Load
 looked lists x w n = if is_in (low_in lists) window x then record { place = word_at (low_in lists) x w; value = n } ∷ [] else []
 
--- A call loaded just these words of x: the view has those loads more, and nothing else changed.
-pub record Reads (lists : List (List CoreEntry)) (x : ℕ) (ws : List Word) (loads : List Load) (before now : View) : Type 0 where
+-- What the value of one word of x is: below the low watermark, what the lists of the opening say; past the window, nothing;
+-- and in it, what stood at the place of the word.
+pub record Looked (made : Type 0) (lists : List (List CoreEntry)) (x : ℕ) (w : Word) (n : ℕ) (v : View) : Type 0 where
+  pub below : x < low_in lists → (p : ℕ) → p < 64 → bit_at n p ≡ as_bit (tells (list_in lists) (txn x) w p)
+  pub past : low_in lists + window ≤ x → n ≡ 0
+  pub found : made → IsIn (low_in lists) window x → Found lists (word_at (low_in lists) x w) n v
+
+-- A call loaded just these words of x: the view has those loads more, and nothing else changed; and where the promise is
+-- made, each load showed what stood at its place.
+pub record Reads (made : Type 0) (lists : List (List CoreEntry)) (x : ℕ) (ws : List Word) (loads : List Load) (before now : View) : Type 0 where
   pub view : now ≡ with_loads loads before
   pub places : map place_of loads ≡ word_places lists x ws
+  pub found : made → AreFound lists before loads
+
+-- A status is told by the loads of the words that it takes; a decision, a registered part and the parts that are done by that
+-- of their word.
+pub record ReadsStatus (made : Type 0) (lists : List (List CoreEntry)) (x : ℕ) (told : Option Status) (loads : List Load) (before now : View) : Type 0 where
+  pub reads : Reads made lists x (words_of told) loads before now
+  pub is : told ≡ status_seen lists loads x
+
+pub record ReadsDecision (made : Type 0) (lists : List (List CoreEntry)) (x : ℕ) (told : Option Decision) (loads : List Load) (before now : View) : Type 0 where
+  pub reads : Reads made lists x (Decided ∷ []) loads before now
+  pub is : told ≡ decision_seen lists loads x
+
+pub record ReadsPart (made : Type 0) (lists : List (List CoreEntry)) (x part : ℕ) (told : Bool) (loads : List Load) (before now : View) : Type 0 where
+  pub reads : Reads made lists x (Registered ∷ []) loads before now
+  pub is : told ≡ (nat_le 1 part && nat_lt part 64 && bit_seen lists loads x Registered part)
+
+pub record ReadsDone (made : Type 0) (lists : List (List CoreEntry)) (x told : ℕ) (loads : List Load) (before now : View) : Type 0 where
+  pub reads : Reads made lists x (Done ∷ []) loads before now
+  pub is : (p : ℕ) → p < 64 → is_bit_set told p ≡ bit_seen lists loads x Done p
+
+-- ---- What the readers tell of the core's state.
+
+-- What the settled lists have of x: the status; the decision; that the part, from 1 to 63, is registered; and those of the
+-- parts 1 to 63 that have a marker and, in bit 0, that it is closed.
+abbrev pub IsStatusIn : ℕ → Option Status → CoreState → Type 0
+IsStatusIn x told c = told ≡ status_of (settled_of c 0) (txn x)
+
+abbrev pub IsDecisionIn : ℕ → Option Decision → CoreState → Type 0
+IsDecisionIn x told c = told ≡ decision_of (settled_of c 0) (txn x)
+
+abbrev pub IsRegisteredIn : ℕ → ℕ → Bool → CoreState → Type 0
+IsRegisteredIn x part told c = told ≡ (nat_le 1 part && nat_lt part 64 && in_parts (settled_of c 0) (txn x) part)
+
+abbrev pub IsDoneIn : ℕ → ℕ → CoreState → Type 0
+IsDoneIn x told c = (p : ℕ) → p < 64 → is_bit_set told p ≡ tells (settled_of c) (txn x) Done p

@@ -1,6 +1,6 @@
 -- How the words lie, and what they say of the settled lists. This module alone knows it: another layout replaces this one
 -- and its laws, and no other.
-use Rattle.std.specs.Prelude.{◌≡◌, ℕ, zero, suc, ◌+◌, ◌-◌, ◌*◌, ◌^◌, ◌==◌, nat_le, nat_lt, ◌&&◌, ◌<◌, ◌≤◌, Bool, false, if◌then◌else◌, List, ◌++◌, length, slice_index, slice_set, Option, Some, None, is_some}
+use Rattle.std.specs.Prelude.{◌≡◌, ℕ, zero, suc, ◌+◌, ◌-◌, ◌*◌, ◌^◌, ◌==◌, nat_le, nat_lt, ◌&&◌, ◌<◌, ◌≤◌, Bool, false, if◌then◌else◌, List, ◌++◌, length, filter, slice_index, slice_set, Option, Some, None, is_some}
 use Rattle.std.specs.Int.{bit_at}
 use Rattle.std.specs.Int.Bits.{bit_or}
 use Rattle.std.specs.List.{list_any}
@@ -11,6 +11,7 @@ use Rattle.txn_base.specs.declared.core_entry.CoreEntry.{CoreEntry}
 use Rattle.txn_base.specs.declared.core_entry.CoreEntry.TheVariants as core
 use Rattle.txn_model.specs.Coord.{is_new, is_add, says_decision, says_closing, count_new}
 use Rattle.txn_model.specs.Topic.{marks}
+use Rattle.txn_model.specs.Skeletons.{same_txn}
 use Rattle.txn_model.specs.Deadlines.{txn}
 use Rattle.txn_core.specs.Steps.{is_decision}
 use Rattle.txn_board.specs.declared.words.Word.{Word}
@@ -116,6 +117,23 @@ with_more lists p es q = if q == p then lists q ++ es else lists q
 -- A value that a word had has only bits that the word has now.
 pub record StillHolds (words : List ℕ) (place value : ℕ) : Type 0 where
   pub bits : (p : ℕ) → bit_at value p ≤ bit_at (slice_index words place) p
+
+-- ---- The entries of a transaction.
+
+-- The entry is one of x; those of a list that are.
+abbrev pub is_of : TxnId → CoreEntry → Bool
+is_of x core.Plain = false
+is_of x (core.Inside y) = same_txn x y
+is_of x (core.Marker y d) = same_txn x y
+is_of x (core.New y) = same_txn x y
+is_of x (core.AddPart y p) = same_txn x y
+is_of x (core.Committing y) = same_txn x y
+is_of x (core.Aborting y) = same_txn x y
+is_of x (core.Committed y) = same_txn x y
+is_of x (core.Aborted y) = same_txn x y
+
+abbrev pub entries_of : TxnId → List CoreEntry → List CoreEntry
+entries_of x es = filter (is_of x) es
 
 -- ---- The low watermark.
 

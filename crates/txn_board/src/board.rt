@@ -1,14 +1,13 @@
 //! The board, its seats, and the calls that read.
 ghost use Rattle.std.specs.Prelude.{◌≡◌, ℕ, ◌<◌, ◌≤◌, ◌+◌, ◌-◌, ◌*◌, [], ◌∷◌, ◌++◌, List, length, IfOk, Bool, Option, Some, None};
 ghost use Rattle.txn_base.specs.declared.core_entry.CoreEntry.{CoreEntry};
-ghost use Rattle.txn_model.specs.Deadlines.{txn as txn_of};
+ghost use Rattle.txn_model.specs.Coord.{count_new};
 ghost use Rattle.txn_core.specs.Together.{AreLawful};
 ghost use Rattle.txn_board.specs.declared.view.Load.{Load};
 ghost use Rattle.txn_board.specs.declared.words.Word.TheVariants.{Registered, Decided, Done};
-ghost use Rattle.txn_board.specs.Words.{window, WordsSay, as_bit, tells};
+ghost use Rattle.txn_board.specs.Words.{window, WordsSay};
 ghost use Rattle.txn_board.specs.Rows.{parts_in, list_in, low_in, opening_view, rest_view, dealt_view, joined_view, kept_rows, HasSeatRow, AreFrom, IsNumberOf, with_loads, spent_view};
-ghost use Rattle.txn_board.specs.Seen.{looked, Reads, bit_seen, status_seen, decision_seen, words_of};
-ghost use Rattle.std.specs.Int.{bit_at};
+ghost use Rattle.txn_board.specs.Seen.{looked, Looked};
 
 use crate::fill::{WINDOW, words_of_lists};
 use crate::view::View;
@@ -45,14 +44,17 @@ impl<T: Promise> TableRule<u8, View, Skeletons> for Law<T> {
     ghost first = { opening_view };
 }
 
-/// A plain load.
-pub struct Looks;
+/// A plain load. Where the promise is made, its value stood at that place.
+pub struct Looks<T: Promise, N: Naming> {
+    of: PhantomData<(T, N)>,
+}
 
-impl Play<u8, View> for Looks {
+impl<T: Promise, N: Naming> Play<u8, View> for Looks<T, N> {
     ghost use Rattle.std.specs.Prelude.{◌≡◌};
     ghost use Rattle.txn_board.specs.Rows.{loaded};
+    ghost use Rattle.txn_board.specs.Rule.{Found};
 
-    ghost then = { λ s me n w. w ≡ (loaded s.word n me.0, me.1) };
+    ghost then = { λ s me n w. (w ≡ (loaded s.word n me.0, me.1)) × (T.made → Found N.lists s.word n me.0) };
 }
 
 /// The first row of a view goes to a seat of its own.
@@ -113,11 +115,13 @@ pub struct Opened<T: Promise> {
 }
 
 impl<T: Promise> Opened<T> {
-    /// A board whose words say what these lists say, that of part p at position p.
+    /// A board whose words say what these lists say, that of part p at position p. It takes 24 bytes for each transaction of
+    /// the window and for each that the log begins, and while it fills them as many again for the window.
     pub fn of_lists(alloc: Global, lists: &Skeletons) -> Result<Opened<T>, AllocError>
         requires log { 1 ≤ length lists.now }
         requires few { length lists.now ≤ 63 }
         requires lawful { T.made → AreLawful (parts_in lists.now) (list_in lists.now) }
+        requires window { T.made → count_new (list_in lists.now 0) ≤ low_in lists.now + window }
         ensures { IfOk result (λ o. o.table.shared.key ≡ lists.now) }
     {
         let (mut fixed, low) = words_of_lists(alloc, lists.as_slice())?;
@@ -311,8 +315,7 @@ impl<T: Promise, N: Naming> Board<T, N> {
     /// The word of a transaction: below the low watermark as it was at the opening, in the window by a load, past it 0.
     pub(crate) fn look(&self, seat: &mut BoardSeat<N>, txn: u64, word: Word) -> u64
         ensures view { seat.new ≡ with_loads (looked N.lists txn word result) seat.old }
-        ensures below { txn < low_in N.lists → (p : ℕ) → p < 64 → bit_at result p ≡ as_bit (tells (list_in N.lists) (txn_of txn) word p) }
-        ensures past { low_in N.lists + window ≤ txn → result ≡ 0 }
+        ensures told { Looked T.made N.lists txn word result seat.old }
     {
         if txn < self.low {
             return self.fixed[(3 * txn + offset_of(word)) as usize];
@@ -323,6 +326,6 @@ impl<T: Promise, N: Naming> Board<T, N> {
         }
         self.table
             .shared
-            .load::<Looks>(&mut seat.seat, (3 * at + offset_of(word)) as usize)
+            .load::<Looks<T, N>>(&mut seat.seat, (3 * at + offset_of(word)) as usize)
     }
 }

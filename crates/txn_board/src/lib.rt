@@ -3,8 +3,8 @@
 #![tactic(auto)]
 
 mod board;
+mod board_laws;
 mod fill;
-mod laws;
 mod readers;
 mod settles;
 mod starts;
@@ -14,9 +14,9 @@ mod words;
 pub use board::{
     Board, BoardSeat, Deals, Joins, Law, Looks, Naming, Opened, Promise, Seats, Surely,
 };
+pub use board_laws::{bits_are_what_the_lists_say, the_rule_has_a_core};
 pub use fill::WINDOW;
-pub use laws::{bits_are_what_the_lists_say, the_rule_has_a_core};
-pub use settles::{Drops, Settles, SettlesOwn};
-pub use starts::{Begins, LooksAtParts, Starting};
+pub use settles::Settles;
+pub use starts::{Begins, Stepping};
 pub use view::{Load, SeatRow, View};
 pub use words::{Mark, OwnStart, Word};

@@ -1,9 +1,9 @@
 //! What a seat reads off the words.
-ghost use Rattle.std.specs.Prelude.{◌≡◌, ◌<◌, nat_le, nat_lt, ◌&&◌, true, ℕ, List, [], ◌∷◌};
+ghost use Rattle.std.specs.Prelude.{◌≡◌, true, List};
 ghost use Rattle.txn_board.specs.declared.view.Load.{Load};
-ghost use Rattle.txn_board.specs.declared.words.Word.TheVariants.{Registered, Decided, Done};
-ghost use Rattle.txn_board.specs.Words.{is_bit_set};
-ghost use Rattle.txn_board.specs.Seen.{Reads, bit_seen, status_by, status_seen, decision_by, decision_seen, words_of};
+ghost use Rattle.txn_board.specs.Rule.{IsTold};
+ghost use Rattle.txn_board.specs.Seen.{status_by, decision_by, ReadsStatus, ReadsDecision, ReadsPart, ReadsDone};
+ghost use Rattle.txn_board.specs.Seen.{IsStatusIn, IsDecisionIn, IsRegisteredIn, IsDoneIn};
 
 use crate::board::{Board, BoardSeat, Naming, Promise};
 use crate::words::{Word, is_bit_set};
@@ -43,7 +43,8 @@ pub(crate) fn decision_told(commit: bool, abort: bool) -> Option<Decision>
 impl<T: Promise, N: Naming> Board<T, N> {
     /// The status of a transaction; none where it isn't begun, and past the window.
     pub fn status(&self, seat: &mut BoardSeat<N>, txn: u64) -> Option<Status>
-        ensures { (loads : List Load) × Reads N.lists txn (words_of result) loads seat.old seat.new × (result ≡ status_seen N.lists loads txn) }
+        ensures read { (loads : List Load) × ReadsStatus T.made N.lists txn result loads seat.old seat.new }
+        ensures told { IsTold T.made N.lists txn (IsStatusIn txn result) }
     {
         let reg = self.look(seat, txn, Word::Registered);
         if !is_bit_set(reg, 0) {
@@ -61,7 +62,8 @@ impl<T: Promise, N: Naming> Board<T, N> {
 
     /// The decision of a transaction; none where there is none yet, and past the window.
     pub fn decision(&self, seat: &mut BoardSeat<N>, txn: u64) -> Option<Decision>
-        ensures { (loads : List Load) × Reads N.lists txn (Decided ∷ []) loads seat.old seat.new × (result ≡ decision_seen N.lists loads txn) }
+        ensures read { (loads : List Load) × ReadsDecision T.made N.lists txn result loads seat.old seat.new }
+        ensures told { IsTold T.made N.lists txn (IsDecisionIn txn result) }
     {
         let dec = self.look(seat, txn, Word::Decided);
         decision_told(is_bit_set(dec, 0), is_bit_set(dec, 1))
@@ -69,7 +71,8 @@ impl<T: Promise, N: Naming> Board<T, N> {
 
     /// Whether a part, from 1 to 63, is one of a transaction's.
     pub fn registered(&self, seat: &mut BoardSeat<N>, txn: u64, part: u32) -> bool
-        ensures { (loads : List Load) × Reads N.lists txn (Registered ∷ []) loads seat.old seat.new × (result ≡ (nat_le 1 part && nat_lt part 64 && bit_seen N.lists loads txn Registered part)) }
+        ensures read { (loads : List Load) × ReadsPart T.made N.lists txn part result loads seat.old seat.new }
+        ensures told { IsTold T.made N.lists txn (IsRegisteredIn txn part result) }
     {
         let reg = self.look(seat, txn, Word::Registered);
         part >= 1 && part < 64 && is_bit_set(reg, part)
@@ -77,7 +80,8 @@ impl<T: Promise, N: Naming> Board<T, N> {
 
     /// Which parts have a marker of a transaction, bit by bit, and in bit 0 whether it is closed.
     pub fn done(&self, seat: &mut BoardSeat<N>, txn: u64) -> u64
-        ensures { (loads : List Load) × Reads N.lists txn (Done ∷ []) loads seat.old seat.new × ((p : ℕ) → p < 64 → is_bit_set result p ≡ bit_seen N.lists loads txn Done p) }
+        ensures read { (loads : List Load) × ReadsDone T.made N.lists txn result loads seat.old seat.new }
+        ensures told { IsTold T.made N.lists txn (IsDoneIn txn result) }
     {
         self.look(seat, txn, Word::Done)
     }

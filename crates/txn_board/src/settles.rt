@@ -11,8 +11,9 @@ ghost use Rattle.txn_board.specs.Calls.{IsSettling, IsSetting, IsSettlingOwn, Is
 use crate::board::{Board, BoardSeat, Naming, Promise};
 use crate::fill::WINDOW;
 use crate::view::View;
-use crate::words::{Mark, Word, mark_of, mask_of, offset_of};
+use crate::words::{Mark, RowStep, Word, mark_of, mask_of, offset_of};
 use atomic_table::Play;
+use std::marker::Brand;
 use txn_base::{CoreEntry, Decision, TxnId};
 
 /// The first entry in flight settles.
@@ -23,26 +24,6 @@ impl Play<u8, View> for Settles {
     ghost use Rattle.txn_board.specs.Rows.{settle_view};
 
     ghost then = { λ s me n w. w ≡ (settle_view me.0, me.1) };
-}
-
-/// A load at which the first entry in flight settles.
-pub struct SettlesOwn;
-
-impl Play<u8, View> for SettlesOwn {
-    ghost use Rattle.std.specs.Prelude.{◌≡◌};
-    ghost use Rattle.txn_board.specs.Rows.{settle_view, loaded};
-
-    ghost then = { λ s me n w. w ≡ (loaded s.word n (settle_view me.0), me.1) };
-}
-
-/// A load at which the flight is lost.
-pub struct Drops;
-
-impl Play<u8, View> for Drops {
-    ghost use Rattle.std.specs.Prelude.{◌≡◌};
-    ghost use Rattle.txn_board.specs.Rows.{drop_view, loaded};
-
-    ghost then = { λ s me n w. w ≡ (loaded s.word n (drop_view me.0), me.1) };
 }
 
 impl<T: Promise, N: Naming> Board<T, N> {
@@ -82,7 +63,7 @@ impl<T: Promise, N: Naming> Board<T, N> {
         requires { T.made → IsSettlingOwn seat.old }
         ensures { (n : ℕ) × (seat.new ≡ loaded 0 n (settle_view seat.old)) }
     {
-        self.table.shared.load::<SettlesOwn>(&mut seat.seat, 0);
+        self.step::<Brand>(seat, 0, RowStep::Settle);
     }
 
     /// What is in flight is lost, where it isn't sure to stay.
@@ -90,7 +71,7 @@ impl<T: Promise, N: Naming> Board<T, N> {
         requires { T.made → MayDrop seat.old }
         ensures { (n : ℕ) × (seat.new ≡ loaded 0 n (drop_view seat.old)) }
     {
-        self.table.shared.load::<Drops>(&mut seat.seat, 0);
+        self.step::<Brand>(seat, 0, RowStep::Lose);
     }
 
     /// The `New` in flight settles, for part 0, or the `AddPart` of another part.

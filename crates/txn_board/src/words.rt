@@ -29,10 +29,10 @@ pub enum OwnStart {
     Decide { txn: u64, decision: Decision },
 }
 
-/// What starts at a load: entries of its own; messages or a hold of a transaction, by the part's number; a marker; a
-/// closing, by the word of registered parts.
+/// What a load makes of a seat's row. Entries start: of its own; messages or a hold of a transaction, by the part's number; a
+/// marker; a closing, by the word of registered parts. Or the first in flight settles, or the flight is lost.
 #[derive(Clone, Copy, Debug, PartialEq, Eq)]
-pub(crate) enum Start {
+pub(crate) enum RowStep {
     Own {
         own: OwnStart,
     },
@@ -48,6 +48,8 @@ pub(crate) enum Start {
         txn: u64,
         reg: u64,
     },
+    Settle,
+    Lose,
 }
 
 /// Where a word stands among the three of its transaction.

@@ -16,7 +16,7 @@ of_words-requires g c =
     let is : c.split_at-2.result.0.now ≡ take (3 * window) (drop (3 * c.in_ok-fixed.low) all) =
     c.split_at-2.ensures.front ∙ ap (take (3 * window)) (c.split_at.ensures.back ∙ ap (drop (3 * c.in_ok-fixed.low)) c.as_slice-2.ensures.value) in
     λ p.
-    opens lists c.split_at-2.result.0.now (record { few = omega (arith, c.requires.few); lawful = c.requires.lawful p })
+    opens lists c.split_at-2.result.0.now (record { few = omega (arith, c.requires.few); lawful = c.requires.lawful p; fits = c.requires.window p })
     (subst (λ ws. WordsSay (low_in lists) window ws (list_in lists)) (sym is)
     (subst (λ l. WordsSay l window (take (3 * window) (drop (3 * c.in_ok-fixed.low) all)) (list_in lists)) low
     (subst (λ k. WordsSay c.in_ok-fixed.low window (take (3 * window) (drop (3 * c.in_ok-fixed.low) all)) (list_in k)) same (cut says.0 c.in_ok-fixed.low window all (list_in c.as_slice.result.now) says.1 says.2))))

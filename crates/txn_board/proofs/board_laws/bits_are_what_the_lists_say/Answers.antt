@@ -2,7 +2,7 @@ use Rattle.std.proofs.Common.{refl}
 use Rattle.txn_base.specs.declared.txn.Decision.TheVariants.{Commit, Abort}
 use Rattle.txn_model.specs.Coord.{says_closing}
 use Rattle.txn_board.proofs.Meanings.{any_some, decides_is, part_bits, marker_bits}
-use Rattle.txn_board.proofs.laws.bits_are_what_the_lists_say.Goals as goal
+use Rattle.txn_board.proofs.board_laws.bits_are_what_the_lists_say.Goals as goal
 
 pub returns-clause-begun : goal.returns-clause-begun
 returns-clause-begun c = λ lists x. refl

@@ -1,0 +1,5 @@
+use Rattle.txn_board.specs.Calls.{row_step}
+use Rattle.txn_board.proofs.board.Board.drop_flight.Given as goal
+
+abbrev pub ghosts-step : goal.ghosts-step
+ghosts-step g a = record { next = row_step a.step a.seat.now }
