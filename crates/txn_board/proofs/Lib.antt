@@ -10,3 +10,6 @@ pub mod Startings
 pub mod Closings
 pub mod Meanings
 pub mod Telling
+pub mod Watermark
+pub mod Sentences
+pub mod Laws

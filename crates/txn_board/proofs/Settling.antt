@@ -20,12 +20,12 @@ use Rattle.txn_board.specs.declared.words.Word.TheVariants.{Done}
 use Rattle.txn_model.proofs.Laws.Tests.{and_both, no_true}
 use Rattle.txn_core.specs.declared.step.CoreRow.{CoreRow}
 use Rattle.txn_core.specs.declared.step.CoreStep.TheVariants as act
-use Rattle.txn_core.specs.Steps.{no_row, row_of, settled_of, flight_of, with_row, settle_row, stop_row, is_flying}
+use Rattle.txn_core.specs.Steps.{no_row, row_of, settled_of, flight_of, with_row, settle_row, stop_row, is_flying, can}
 use Rattle.txn_board.specs.declared.view.SeatRow.{SeatRow}
 use Rattle.txn_board.specs.declared.view.Load.{Load}
 use Rattle.txn_board.specs.declared.view.View.{View}
 use Rattle.txn_board.specs.Words.{window, is_of, entries_of, WordsSay, mark_where, mark_of, with_mark, with_more, word_at, set_bit}
-use Rattle.txn_board.specs.Rows.{IsNumberOf, low_in, with_row_by, settle_view, drop_view, loaded}
+use Rattle.txn_board.specs.Rows.{IsNumberOf, parts_in, low_in, with_row_by, settle_view, drop_view, loaded}
 use Rattle.txn_board.specs.Rule.{LoadsHold, Holds, AllowsTo}
 use Rattle.txn_board.specs.Calls.{IsSettling, MayDrop, IsSetting, is_quiet, IsSettlingOwn, IsEnding, end_entry, ending_mark}
 use Rattle.txn_board.proofs.Marks.{noted, in_by}
@@ -38,6 +38,12 @@ module _ (lists : List (List CoreEntry)) (s : table.State ℕ View) (h : Holds l
       let m = mine lists s h id v seat r is in
       let l : 0 < length (flight_of h.state r.part) = subst (λ es. 0 < length es) (sym (ap (λ (x : CoreRow). x.flight) m.2 ∙ f)) (omega arith) in
       and_both (nat_lt r.part (length h.state.rows)) (nat_lt 0 (length (flight_of h.state r.part))) (lt-ltb r.part (length h.state.rows) m.1) (lt-ltb 0 (length (flight_of h.state r.part)) l)
+
+  pub may_settle : (e : CoreEntry) (rest : List CoreEntry) → r.row.flight ≡ e ∷ rest → can (parts_in lists) h.state (act.Settle r.part) ≡ true
+  may_settle e rest f = flying e rest f
+
+  pub may_lose : (e : CoreEntry) (rest : List CoreEntry) → r.row.flight ≡ e ∷ rest → r.row.sure ≡ false → can (parts_in lists) h.state (act.Stop r.part false) ≡ true
+  may_lose e rest f sure = and_both (is_flying h.state r.part) (false || not (row_of h.state r.part).sure) (flying e rest f) (ap (λ b. false || not b) (ap (λ (x : CoreRow). x.sure) (mine lists s h id v seat r is).2 ∙ sure))
 
   pub settles_to : (e : CoreEntry) (rest : List CoreEntry) → r.row.flight ≡ e ∷ rest → (words : List ℕ) → words ≡ with_mark (low_in lists) window (mark_of r.part e) s.words
       → (next : View) → next.rows ≡ with_row_by settle_row v.rows → LoadsHold s.words next.loads
@@ -83,7 +89,7 @@ module _ (lists : List (List CoreEntry)) (s : table.State ℕ View) (h : Holds l
         fits = λ z. let none : count_new [] ≡ 0 = refl in omega (arith, count_more r.row.settled [], count_more r.row.settled r.row.flight, none, row_fits lists s h id v seat r is z);
       } in
       row_stays lists s h id v seat r is (act.Stop r.part false)
-      (and_both (is_flying h.state r.part) (false || not (row_of h.state r.part).sure) (flying e rest f) (ap (λ b. false || not b) (ap (λ (x : CoreRow). x.sure) m.2 ∙ sure)))
+      (may_lose e rest f sure)
       (stop_row false r.row) keep (ap (λ x. with_row h.state r.part (stop_row false x)) m.2) refl (loaded i (slice_index s.words i) (drop_view v)) (ap (with_row_by (stop_row false)) is) i refl
 
 -- a step on a word at which the bit of the entry is set

@@ -43,7 +43,7 @@ use Rattle.txn_board.proofs.Marks.{in_by, in_of}
 use Rattle.txn_board.proofs.Steps.{RowStays, log_lawful, looks, mine, row_fits, row_stays}
 
 -- what the row shows and what other lists give: the core allows the start
-can_start : (lists : List (List CoreEntry)) (s : table.State ℕ View) (h : Holds lists s) (id : ℕ) (v : View) (seat : get_elem? s.views id ≡ some v) (es : List CoreEntry) (m : MayStart (parts_in lists) es v)
+pub can_start : (lists : List (List CoreEntry)) (s : table.State ℕ View) (h : Holds lists s) (id : ℕ) (v : View) (seat : get_elem? s.views id ≡ some v) (es : List CoreEntry) (m : MayStart (parts_in lists) es v)
     → list_all (may_cross (settled_of h.state) m.row.part) es ≡ true → can (parts_in lists) h.state (act.Start m.row.part es) ≡ true
 can_start lists s h id v seat es m cross =
     let p = m.row.part in

@@ -55,10 +55,10 @@ module _ (lists : List (List CoreEntry)) (s : table.State ℕ View) (h : Holds l
 
   -- ---- Outside the window.
 
-  below_same : (w : Word) (p : ℕ) → x < low_in lists → so w p ≡ tells (list_in lists) (txn x) w p
+  pub below_same : (w : Word) (p : ℕ) → x < low_in lists → so w p ≡ tells (list_in lists) (txn x) w p
   below_same w p lt = said_by w p (txn x) (settled_of h.state (teller w p)) (list_in lists (teller w p)) (below_settled lists s h x (teller w p) lt).0
 
-  logged_below : (w : Word) (p : ℕ) → list_any (sets w p (txn x)) (settled_of h.state 0) ≡ true → x < low_in lists + window
+  pub logged_below : (w : Word) (p : ℕ) → list_any (sets w p (txn x)) (settled_of h.state 0) ≡ true → x < low_in lists + window
   logged_below w p b =
       let lt : x < count_new (settled_of h.state 0) = begun_below (parts_in lists) x (settled_of h.state 0) (log_lawful lists s h) (any_more (sets w p (txn x)) (is_of (txn x)) (sets_of w p (txn x)) (settled_of h.state 0) b) in
       omega (arith, lt, h.fits, count_more (settled_of h.state 0) (flight_of h.state 0))
@@ -99,7 +99,10 @@ module _ (lists : List (List CoreEntry)) (s : table.State ℕ View) (h : Holds l
           side (yes l) = absurd (no_true (sym out ∙ in_by (low_in lists) window x (record { least = omega (arith, m); most = l })))
           side (no q) = omega (arith, q)
 
-no_loads : (lists : List (List CoreEntry)) (x : ℕ) (ws : List Word) (loads : List Load) → is_in (low_in lists) window x ≡ false → map place_of loads ≡ word_places lists x ws → loads ≡ []
+pub status_bits : {a b c d a' b' c' d' : Bool} → a ≡ a' → b ≡ b' → c ≡ c' → d ≡ d' → status_by a b c d ≡ status_by a' b' c' d'
+status_bits {a} {b} {c} {d} {a'} {b'} {c'} {d'} e f g h = ap (λ t. status_by t b c d) e ∙ (ap (λ t. status_by a' t c d) f ∙ (ap (λ t. status_by a' b' t d) g ∙ ap (λ t. status_by a' b' c' t) h))
+
+pub no_loads : (lists : List (List CoreEntry)) (x : ℕ) (ws : List Word) (loads : List Load) → is_in (low_in lists) window x ≡ false → map place_of loads ≡ word_places lists x ws → loads ≡ []
 no_loads lists x ws loads out places = none loads (places ∙ ap (λ t. if t then map (word_at (low_in lists) x) ws else []) out)
   where
     none : (ls : List Load) → map place_of ls ≡ [] → ls ≡ []
@@ -183,11 +186,7 @@ module _ (made : Type 0) (lists : List (List CoreEntry)) (x : ℕ) where
   outside_status told loads v v1 r out s h =
       let none = no_loads lists x _ loads out r.reads.places in
       let at = λ (w : Word) (p : ℕ). outside_bit lists s h x loads w p out none in
-      r.is ∙ (ap (λ t. status_by t (bit_seen lists loads x Decided 0) (bit_seen lists loads x Decided 1) (bit_seen lists loads x Done 0)) (at Registered 0)
-      ∙ (ap (λ t. status_by (tells (settled_of h.state) (txn x) Registered 0) t (bit_seen lists loads x Decided 1) (bit_seen lists loads x Done 0)) (at Decided 0)
-      ∙ (ap (λ t. status_by (tells (settled_of h.state) (txn x) Registered 0) (tells (settled_of h.state) (txn x) Decided 0) t (bit_seen lists loads x Done 0)) (at Decided 1)
-      ∙ (ap (λ t. status_by (tells (settled_of h.state) (txn x) Registered 0) (tells (settled_of h.state) (txn x) Decided 0) (tells (settled_of h.state) (txn x) Decided 1) t) (at Done 0)
-      ∙ status_is (parts_in lists) (settled_of h.state) (txn x) (log_lawful lists s h)))))
+      r.is ∙ (status_bits (at Registered 0) (at Decided 0) (at Decided 1) (at Done 0) ∙ status_is (parts_in lists) (settled_of h.state) (txn x) (log_lawful lists s h))
 
   last_holds : (words : List ℕ) (ls : List Load) (l : Load) → LoadsHold words (ls ++ l ∷ []) → StillHolds words l.place l.value
   last_holds words [] l k = k.0

@@ -6,8 +6,9 @@ use Rattle.txn_base.specs.declared.core_entry.CoreEntry.TheVariants as core
 use Rattle.txn_model.specs.Coord.{decision_skeleton, closing_skeleton, decision_of}
 use Rattle.txn_model.specs.Deadlines.{txn}
 use Rattle.txn_core.specs.declared.step.CoreRow.{CoreRow}
+use Rattle.txn_core.specs.declared.step.CoreStep.TheVariants as act
 use Rattle.txn_core.specs.Together.{is_alone}
-use Rattle.txn_core.specs.Steps.{is_batch}
+use Rattle.txn_core.specs.Steps.{CoreState, settled_of, may_cross, is_batch}
 use Rattle.txn_board.specs.declared.view.SeatRow.{SeatRow}
 use Rattle.txn_board.specs.declared.view.View.{View}
 use Rattle.txn_board.specs.declared.words.Mark.{Mark}
@@ -18,10 +19,10 @@ use Rattle.txn_board.specs.declared.words.RowStep.{RowStep}
 use Rattle.txn_board.specs.declared.words.RowStep.TheVariants as turn
 use Rattle.txn_board.specs.declared.words.Word.{Word}
 use Rattle.txn_board.specs.Seen.{decision_by}
-use Rattle.std.specs.List.{list_any}
+use Rattle.std.specs.List.{list_any, list_all}
 use Rattle.txn_board.specs.Words.{window, IsIn, is_in, word_at, mark_of, is_bit_set, sets}
-use Rattle.txn_board.specs.Rows.{low_in, start_view, settle_view, drop_view, loaded}
-use Rattle.txn_board.specs.Rule.{Holds, AllowsTo, Found}
+use Rattle.txn_board.specs.Rows.{parts_in, low_in, start_view, settle_view, drop_view, loaded}
+use Rattle.txn_board.specs.Rule.{Holds, AllowsTo, Found, StepsTo}
 
 -- The seat has the row of this part alone, and this entry is the first in flight.
 pub record IsSettling (part : ℕ) (e : CoreEntry) (v : View) : Type 0 where
@@ -88,6 +89,10 @@ pub record MayStart (n : ℕ) (es : List CoreEntry) (v : View) : Type 0 where
   pub resting : row.row.flight ≡ []
   pub batch : is_batch row.part es ≡ true
   pub alone : is_alone n row.part (row.row.settled ++ es) ≡ true
+
+-- The settled lists give what each of these entries of the part asks of other lists.
+abbrev pub MayCross : CoreState → ℕ → List CoreEntry → Type 0
+MayCross c part es = list_all (may_cross (settled_of c) part) es ≡ true
 
 -- What a part starts of its own.
 abbrev pub own_entries : OwnStart → List CoreEntry
@@ -205,3 +210,15 @@ pub record StartsClosing (made : Type 0) (lists : List (List CoreEntry)) (x reg 
   pub of_row : made → IsOfRow reg x before
   pub starts : Starts made lists x Done done (closing_where missing before.rows x) (loaded (word_at (low_in lists) x Registered) reg before) now
   pub least : missing ≡ first_missing reg done
+
+-- ---- The core's steps that a seat's row makes.
+
+-- The view's row settles, is dropped and starts by a step of the core.
+abbrev pub SettlesByStep : List (List CoreEntry) → CoreState → View → Type 0
+SettlesByStep lists c v = (part : ℕ) (e : CoreEntry) → IsSettling part e v → StepsTo (parts_in lists) c (act.Settle part) part (settle_view v)
+
+abbrev pub DropsByStep : List (List CoreEntry) → CoreState → View → Type 0
+DropsByStep lists c v = (m : MayDrop v) → StepsTo (parts_in lists) c (act.Stop m.row.part false) m.row.part (drop_view v)
+
+abbrev pub StartsByStep : List (List CoreEntry) → CoreState → View → Type 0
+StartsByStep lists c v = (es : List CoreEntry) (m : MayStart (parts_in lists) es v) → MayCross c m.row.part es → StepsTo (parts_in lists) c (act.Start m.row.part es) m.row.part (start_view es v)

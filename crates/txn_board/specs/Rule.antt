@@ -1,18 +1,23 @@
 -- The rule of the board, which holds between any two steps.
-use Rattle.std.specs.Prelude.{◌≡◌, ℕ, ◌≤◌, ◌<◌, ◌+◌, false, slice_set, slice_index, List, [], ◌∷◌, ◌++◌, length}
+use Rattle.std.specs.Prelude.{◌≡◌, ℕ, ◌≤◌, ◌<◌, ◌+◌, true, false, Some, slice_set, slice_index, Contains, List, [], ◌∷◌, ◌++◌, length}
 use mathlib.Core.Option.{some}
 use lib.ListN.{get_elem?}
+use Rattle.std.specs.Int.{bit_at}
 use Rattle.atomic_table.specs.Table as table
 use Rattle.txn_base.specs.declared.core_entry.CoreEntry.{CoreEntry}
 use Rattle.txn_model.specs.Coord.{count_new}
-use Rattle.txn_model.specs.Deadlines.{txn}
+use Rattle.txn_base.specs.declared.txn.Status.{Status}
+use Rattle.txn_model.specs.Deadlines.{txn, is_closed}
 use Rattle.txn_core.specs.declared.step.CoreStep.{CoreStep}
 use Rattle.txn_core.specs.Together.{AreLawful}
-use Rattle.txn_core.specs.Steps.{CoreState, run, settled_of, flight_of}
+use Rattle.txn_core.specs.Steps.{CoreState, row_of, can, core_after, run, settled_of, flight_of}
 use Rattle.txn_core.specs.Kept.{resting_core}
+use Rattle.txn_board.specs.declared.words.Word.{Word}
+use Rattle.txn_board.specs.declared.words.Word.TheVariants.{Decided}
+use Rattle.txn_board.specs.declared.view.SeatRow.{SeatRow}
 use Rattle.txn_board.specs.declared.view.Load.{Load}
 use Rattle.txn_board.specs.declared.view.View.{View}
-use Rattle.txn_board.specs.Words.{window, IsIn, is_in, WordsSay, StillHolds, entries_of}
+use Rattle.txn_board.specs.Words.{window, IsIn, is_in, word_at, WordsSay, StillHolds, entries_of}
 use Rattle.txn_board.specs.Rows.{parts_in, low_in, list_in, AreSeatRows, AreApart, HasSeatRow, loaded}
 
 -- Each of these loads still holds.
@@ -91,3 +96,51 @@ pub record Once (lists : List (List CoreEntry)) (fact : CoreState → Type 0) : 
 pub record IsTold (made : Type 0) (lists : List (List CoreEntry)) (x : ℕ) (fact : CoreState → Type 0) : Type 0 where
   pub within : made → IsIn (low_in lists) window x → Once lists fact
   pub outside : is_in (low_in lists) window x ≡ false → (s : table.State ℕ View) (h : Holds lists s) → fact h.state
+
+-- ---- The rule as sentences.
+
+-- Of each board at which the rule holds, this is so of its words and views and of the core's state; of each view of one, this
+-- is so of the core's state.
+abbrev pub AtEachMoment : (List (List CoreEntry) → table.State ℕ View → CoreState → Type 0) → Type 0
+AtEachMoment fact = (lists : List (List CoreEntry)) (s : table.State ℕ View) (h : Holds lists s) → fact lists s h.state
+
+abbrev pub OfEachView : (List (List CoreEntry) → CoreState → View → Type 0) → Type 0
+OfEachView fact = AtEachMoment (λ lists s c. (id : ℕ) (v : View) → get_elem? s.views id ≡ some v → fact lists c v)
+
+-- Of each load of a word of a transaction of the window, this is so of the value and the view that it was made with.
+abbrev pub OfEachLoad : (List (List CoreEntry) → ℕ → Word → ℕ → View → Type 0) → Type 0
+OfEachLoad fact = (lists : List (List CoreEntry)) (x : ℕ) (w : Word) (n : ℕ) (v : View) → Found lists (word_at (low_in lists) x w) n v → IsIn (low_in lists) window x → fact lists x w n v
+
+-- Of each lists that may open a board, and of words that say what they say, this is so.
+abbrev pub OpensBy : (List (List CoreEntry) → List ℕ → Type 0) → Type 0
+OpensBy fact = (lists : List (List CoreEntry)) (words : List ℕ) → CanOpenBoard lists → WordsSay (low_in lists) window words (list_in lists) → fact lists words
+
+-- Each part of the core has a seat.
+abbrev pub HaveSeats : table.State ℕ View → CoreState → Type 0
+HaveSeats s c = (p : ℕ) → p < length c.rows → (id : ℕ) × HasSeat s.views id p
+
+-- Each row of a view is the core's row of its part.
+abbrev pub RowsAreCores : table.State ℕ View → CoreState → Type 0
+RowsAreCores s c = (id : ℕ) (v : View) (r : SeatRow) → get_elem? s.views id ≡ some v → Contains v.rows r → row_of c r.part ≡ r.row
+
+-- No two seats have a row of one part.
+abbrev pub SeatsAreApart : table.State ℕ View → Type 0
+SeatsAreApart s = (id other p : ℕ) (v w : View) → get_elem? s.views id ≡ some v → get_elem? s.views other ≡ some w → HasSeatRow p v.rows → HasSeatRow p w.rows → id ≡ other
+
+-- Each bit that a load of a view showed is set now.
+abbrev pub LoadsStay : table.State ℕ View → Type 0
+LoadsStay s = (id p : ℕ) (v : View) (l : Load) → get_elem? s.views id ≡ some v → Contains v.loads l → bit_at l.value p ≤ bit_at (slice_index s.words l.place) p
+
+-- Of the decision word of a transaction of the window, no bit past the first two is set.
+abbrev pub TwoBitsDecide : List (List CoreEntry) → table.State ℕ View → Type 0
+TwoBitsDecide lists s = (x p : ℕ) → IsIn (low_in lists) window x → 2 ≤ p → p < 64 → bit_at (slice_index s.words (word_at (low_in lists) x Decided)) p ≡ 0
+
+-- Where there are n parts beside the coordinator, the core may make this step, and after it the view has the core's row of
+-- this part alone.
+pub record StepsTo (n : ℕ) (c : CoreState) (step : CoreStep) (part : ℕ) (next : View) : Type 0 where
+  pub allowed : can n c step ≡ true
+  pub row : next.rows ≡ record { part = part; row = row_of (core_after c step) part } ∷ []
+
+-- A transaction with this status isn't closed.
+abbrev pub IsUnclosed : Status → Type 0
+IsUnclosed st = is_closed (Some st) ≡ false

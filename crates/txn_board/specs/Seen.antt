@@ -2,11 +2,12 @@
 use Rattle.std.specs.Prelude.{◌≡◌, ◌<◌, ◌≤◌, ◌+◌, ◌&&◌, ℕ, ◌==◌, nat_le, nat_lt, Bool, true, false, if◌then◌else◌, List, [], ◌∷◌, map, Option, Some, None}
 use Rattle.std.specs.Int.{bit_at}
 use Rattle.txn_base.specs.declared.core_entry.CoreEntry.{CoreEntry}
+use Rattle.txn_base.specs.declared.txn.TxnId.{TxnId}
 use Rattle.txn_base.specs.declared.txn.Decision.{Decision}
 use Rattle.txn_base.specs.declared.txn.Decision.TheVariants.{Commit, Abort}
 use Rattle.txn_base.specs.declared.txn.Status.{Status}
 use Rattle.txn_base.specs.declared.txn.Status.TheVariants.{Open, Committing, Committed, Aborting, Aborted}
-use Rattle.txn_model.specs.Coord.{status_of, decision_of, in_parts}
+use Rattle.txn_model.specs.Coord.{CoordLawful, status_of, decision_of, in_parts}
 use Rattle.txn_model.specs.Deadlines.{txn}
 use Rattle.txn_core.specs.Steps.{CoreState, settled_of}
 use Rattle.txn_board.specs.declared.view.Load.{Load}
@@ -41,6 +42,17 @@ abbrev pub decision_by : Bool → Bool → Option Decision
 decision_by true abort = Some Commit
 decision_by false true = Some Abort
 decision_by false false = None
+
+-- By the bits that these lists say of x, its status, its decision.
+abbrev pub status_told : (ℕ → List CoreEntry) → TxnId → Option Status
+status_told lists x = status_by (tells lists x Registered 0) (tells lists x Decided 0) (tells lists x Decided 1) (tells lists x Done 0)
+
+abbrev pub decision_told : (ℕ → List CoreEntry) → TxnId → Option Decision
+decision_told lists x = decision_by (tells lists x Decided 0) (tells lists x Decided 1)
+
+-- Of lists with a lawful log, this is so of each transaction.
+abbrev pub OfLawfulLogs : ((ℕ → List CoreEntry) → TxnId → Type 0) → Type 0
+OfLawfulLogs fact = (n : ℕ) (lists : ℕ → List CoreEntry) (x : TxnId) → CoordLawful n (lists 0) → fact lists x
 
 -- By these loads, the status of x, its decision.
 abbrev pub status_seen : List (List CoreEntry) → List Load → ℕ → Option Status
@@ -98,7 +110,15 @@ pub record ReadsDone (made : Type 0) (lists : List (List CoreEntry)) (x told : �
   pub reads : Reads made lists x (Done ∷ []) loads before now
   pub is : (p : ℕ) → p < 64 → is_bit_set told p ≡ bit_seen lists loads x Done p
 
+-- A reader who is told a status of a transaction that isn't closed knows that it lies in the window.
+abbrev pub ToldWithin : Type 0 → List (List CoreEntry) → ℕ → Status → Type 0
+ToldWithin made lists x st = (loads : List Load) (v w : View) → ReadsStatus made lists x (Some st) loads v w → IsIn (low_in lists) window x
+
 -- ---- What the readers tell of the core's state.
+
+-- The bits of the number are what the settled lists say by this word of x.
+abbrev pub IsWordIn : ℕ → Word → ℕ → CoreState → Type 0
+IsWordIn x w n c = (p : ℕ) → p < 64 → is_bit_set n p ≡ tells (settled_of c) (txn x) w p
 
 -- What the settled lists have of x: the status; the decision; that the part, from 1 to 63, is registered; and those of the
 -- parts 1 to 63 that have a marker and, in bit 0, that it is closed.
@@ -112,4 +132,4 @@ abbrev pub IsRegisteredIn : ℕ → ℕ → Bool → CoreState → Type 0
 IsRegisteredIn x part told c = told ≡ (nat_le 1 part && nat_lt part 64 && in_parts (settled_of c 0) (txn x) part)
 
 abbrev pub IsDoneIn : ℕ → ℕ → CoreState → Type 0
-IsDoneIn x told c = (p : ℕ) → p < 64 → is_bit_set told p ≡ tells (settled_of c) (txn x) Done p
+IsDoneIn x told c = IsWordIn x Done told c

@@ -1,7 +1,7 @@
 use Rattle.std.proofs.Common.{refl}
 use Rattle.txn_base.specs.declared.txn.Decision.TheVariants.{Commit, Abort}
 use Rattle.txn_model.specs.Coord.{says_closing}
-use Rattle.txn_board.proofs.Meanings.{any_some, decides_is, part_bits, marker_bits}
+use Rattle.txn_board.proofs.Meanings.{any_some, decides_is, part_bits, marker_bits, status_is, said_decision}
 use Rattle.txn_board.proofs.board_laws.bits_are_what_the_lists_say.Goals as goal
 
 pub returns-clause-begun : goal.returns-clause-begun
@@ -21,3 +21,9 @@ returns-clause-closed c = λ lists x. any_some (says_closing x) (lists 0)
 
 pub returns-clause-marked : goal.returns-clause-marked
 returns-clause-marked c = marker_bits
+
+pub returns-clause-status : goal.returns-clause-status
+returns-clause-status c = status_is
+
+pub returns-clause-decision : goal.returns-clause-decision
+returns-clause-decision c = said_decision

@@ -1,0 +1,157 @@
+-- The rule as sentences, and which status lies in the window.
+use Rattle.std.proofs.Common.{◌≡◌, ◌⊎◌, ℕ, zero, suc, ◌+◌, ◌-◌, ◌<◌, ◌≤◌, arith, ◌==◌, Bool, true, false, ◌&&◌, if◌then◌else◌, List, [], ◌∷◌, ◌++◌, length, get_or, set, replicate, Option, Some, None, refl, sym, ap, ◌∙◌, subst}
+use Rattle.std.specs.Prelude.{Contains, slice_index, is_some, unwrap_or, nat_lt, nat_le}
+use Rattle.std.specs.Int.{bit_at}
+use Rattle.std.specs.List.{list_any, list_all}
+use Rattle.std.proofs.lemmas.Bool.{lt-ltb, le-ltb}
+use Rattle.std.proofs.lemmas.List.{length-replicate, get_or-set_same}
+use Rattle.std.proofs.lemmas.Nat.Bits.{bit_at-zero}
+use mathlib.Core.Option.{some}
+use lib.ListN.{get_elem?}
+use native.Mathlib.Decide.{dec_lt}
+use Rattle.atomic_table.specs.Table as table
+use Rattle.txn_base.specs.declared.txn.TxnId.{TxnId}
+use Rattle.txn_base.specs.declared.txn.Decision.{Decision}
+use Rattle.txn_base.specs.declared.txn.Status.{Status}
+use Rattle.txn_base.specs.declared.core_entry.CoreEntry.{CoreEntry}
+use Rattle.txn_base.specs.declared.txn.Status.TheVariants.{Open}
+use Rattle.txn_model.specs.Words.{last_of}
+use Rattle.txn_model.specs.Coord.{has_new, says_status, status_of, closing_of, count_new}
+use Rattle.txn_model.specs.Deadlines.{txn, is_closed}
+use Rattle.txn_model.proofs.Laws.Tests.{no_true}
+use Rattle.txn_core.specs.declared.step.CoreRow.{CoreRow}
+use Rattle.txn_core.specs.declared.step.CoreStep.TheVariants as act
+use Rattle.txn_core.specs.Together.{AreLawful}
+use Rattle.txn_core.specs.Steps.{CoreState, no_row, row_of, settled_of, start_row, settle_row, stop_row, may_cross}
+use Rattle.txn_board.specs.declared.view.SeatRow.{SeatRow}
+use Rattle.txn_board.specs.declared.view.Load.{Load}
+use Rattle.txn_board.specs.declared.view.View.{View}
+use Rattle.txn_board.specs.declared.words.Word.{Word}
+use Rattle.txn_board.specs.declared.words.Word.TheVariants.{Registered, Decided, Done}
+use Rattle.txn_board.specs.Words.{window, IsIn, is_in, word_at, as_bit, is_bit_set, tells, has_closing}
+use Rattle.txn_board.specs.Rows.{parts_in, list_in, low_in, AreSeatRows, with_row_by, settle_view, drop_view, start_view}
+use Rattle.txn_board.specs.Rule.{LoadsHold, CanOpenBoard, Holds, StepsTo, IsUnclosed}
+use Rattle.txn_board.specs.Calls.{IsSettling, MayDrop, MayStart}
+use Rattle.txn_board.specs.Seen.{last_value, bit_seen, status_by, status_told, ReadsStatus}
+use Rattle.txn_board.proofs.Steps.{log_lawful, mine}
+use Rattle.txn_board.proofs.Settling.{may_settle, may_lose}
+use Rattle.txn_board.proofs.Startings.{can_start}
+use Rattle.txn_board.proofs.Watermark.{closed_below, closed_is, closing_is}
+use Rattle.txn_board.proofs.Meanings.{status_is}
+use Rattle.txn_board.proofs.Telling.{logged_below, below_same, status_bits, no_loads}
+
+-- ---- Rows and loads.
+
+row_in : (c : CoreState) (owner : ℕ → ℕ) (id : ℕ) (rs : List SeatRow) (r : SeatRow) (k : ℕ) → AreSeatRows c owner id rs → k < length rs → get_or rs k r ≡ r → row_of c r.part ≡ r.row
+row_in c owner id [] r k f lt e = absurd (omega (arith, lt))
+row_in c owner id (q ∷ rs) r zero f lt e = subst (λ (t : SeatRow). row_of c t.part ≡ t.row) e f.0.2
+row_in c owner id (q ∷ rs) r (suc k) f lt e = row_in c owner id rs r k f.1 (omega (arith, lt)) e
+
+pub rows_are : (lists : List (List CoreEntry)) (s : table.State ℕ View) (h : Holds lists s) (id : ℕ) (v : View) (r : SeatRow) → get_elem? s.views id ≡ some v → Contains v.rows r → row_of h.state r.part ≡ r.row
+rows_are lists s h id v r seat k = row_in h.state h.owner id v.rows r k.0 (h.rows id v seat) k.1 k.2
+
+load_in : (words : List ℕ) (ls : List Load) (l : Load) (p k : ℕ) → LoadsHold words ls → k < length ls → get_or ls k l ≡ l → bit_at l.value p ≤ bit_at (slice_index words l.place) p
+load_in words [] l p k h lt e = absurd (omega (arith, lt))
+load_in words (m ∷ ls) l p zero h lt e = subst (λ (t : Load). bit_at t.value p ≤ bit_at (slice_index words t.place) p) e (h.0.bits p)
+load_in words (m ∷ ls) l p (suc k) h lt e = load_in words ls l p k h.1 (omega (arith, lt)) e
+
+pub loads_stay : (lists : List (List CoreEntry)) (s : table.State ℕ View) (h : Holds lists s) (id p : ℕ) (v : View) (l : Load) → get_elem? s.views id ≡ some v → Contains v.loads l → bit_at l.value p ≤ bit_at (slice_index s.words l.place) p
+loads_stay lists s h id p v l seat k = load_in s.words v.loads l p k.0 (h.loads id v seat) k.1 k.2
+
+pub two_bits : (lists : List (List CoreEntry)) (s : table.State ℕ View) (h : Holds lists s) (x p : ℕ) → IsIn (low_in lists) window x → 2 ≤ p → p < 64 → bit_at (slice_index s.words (word_at (low_in lists) x Decided)) p ≡ 0
+two_bits lists s h x zero inside low small = absurd (omega (arith, low))
+two_bits lists s h x (suc zero) inside low small = absurd (omega (arith, low))
+two_bits lists s h x (suc (suc p)) inside low small = h.words.bits x Decided (suc (suc p)) inside small ∙ ap as_bit (none (settled_of h.state 0))
+  where
+    none : (es : List CoreEntry) → list_any (λ e. false) es ≡ false
+    none [] = refl
+    none (e ∷ es) = none es
+
+-- ---- Which status lies in the window.
+
+-- the lists that a board is opened with close each transaction below the low watermark
+low_closed : (lists : List (List CoreEntry)) → CanOpenBoard lists → (x : ℕ) → x < low_in lists → is_closed (status_of (list_in lists 0) (txn x)) ≡ true
+low_closed lists may x lt = closed_is (parts_in lists) (list_in lists 0) (txn x) (may.lawful.alone 0) ∙ (sym (closing_is (list_in lists 0) x) ∙ closed_below (list_in lists 0) x lt)
+
+-- a transaction that has a status and isn't closed lies in the window
+pub open_within : (lists : List (List CoreEntry)) (s : table.State ℕ View) (h : Holds lists s) (x : ℕ) (st : Status) → status_of (settled_of h.state 0) (txn x) ≡ Some st → IsUnclosed st → IsIn (low_in lists) window x
+open_within lists s h x st is unclosed = record { least = above (dec_lt x (low_in lists)); most = logged_below lists s h x Registered 0 (begun (has_new (settled_of h.state 0) (txn x)) refl is) }
+  where
+    begun : (b : Bool) → has_new (settled_of h.state 0) (txn x) ≡ b → status_of (settled_of h.state 0) (txn x) ≡ Some st → has_new (settled_of h.state 0) (txn x) ≡ true
+    begun true e k = e
+    begun false e k = absurd (cc (sym (ap (λ b. if b then Some (unwrap_or (last_of (says_status (txn x)) (settled_of h.state 0)) Open) else None) e) ∙ k))
+
+    above : Dec (x < low_in lists) → low_in lists ≤ x
+    above (no n) = omega (arith, n)
+    above (yes lt) =
+        let same : has_closing (settled_of h.state 0) x ≡ has_closing (list_in lists 0) x = below_same lists s h x Done 0 lt in
+        let closed : is_closed (status_of (settled_of h.state 0) (txn x)) ≡ true = closed_is (parts_in lists) (settled_of h.state 0) (txn x) (log_lawful lists s h) ∙ (sym (closing_is (settled_of h.state 0) x) ∙ (same ∙ closed_below (list_in lists 0) x lt)) in
+        absurd (no_true (sym unclosed ∙ (sym (ap is_closed is) ∙ closed)))
+
+-- so does one of which a reader is told such a status
+pub told_within : (made : Type 0) (lists : List (List CoreEntry)) (x : ℕ) (st : Status) (loads : List Load) (v w : View) → CanOpenBoard lists → ReadsStatus made lists x (Some st) loads v w → IsUnclosed st → IsIn (low_in lists) window x
+told_within made lists x st loads v w may r unclosed = go (dec_lt x (low_in lists)) (dec_lt x (low_in lists + window))
+  where
+    go : Dec (x < low_in lists) → Dec (x < low_in lists + window) → IsIn (low_in lists) window x
+    go (no n) (yes lt) = record { least = omega (arith, n); most = lt }
+    go (yes lt) d =
+        let bits : (u : Word) (p : ℕ) → bit_seen lists loads x u p ≡ tells (list_in lists) (txn x) u p = λ u p. ap (λ t. if t then tells (list_in lists) (txn x) u p else is_bit_set (last_value 0 loads (word_at (low_in lists) x u)) p) (lt-ltb x (low_in lists) lt) in
+        let told : Some st ≡ status_told (list_in lists) (txn x) =
+        r.is ∙ status_bits (bits Registered 0) (bits Decided 0) (bits Decided 1) (bits Done 0) in
+        absurd (no_true (sym unclosed ∙ (ap is_closed (told ∙ status_is (parts_in lists) (list_in lists) (txn x) (may.lawful.alone 0)) ∙ low_closed lists may x lt)))
+    go (no n) (no m) =
+        let none : loads ≡ [] = no_loads lists x _ loads (outside n m) r.reads.places in
+        let begun : bit_seen lists loads x Registered 0 ≡ false =
+        ap (λ t. if t then tells (list_in lists) (txn x) Registered 0 else is_bit_set (last_value 0 loads (word_at (low_in lists) x Registered)) 0) (le-ltb x (low_in lists) (omega (arith, n)))
+        ∙ (ap (λ ls. is_bit_set (last_value 0 ls (word_at (low_in lists) x Registered)) 0) none ∙ ap (λ k. k == 1) (bit_at-zero 0)) in
+        absurd (cc (r.is ∙ ap (λ t. status_by t (bit_seen lists loads x Decided 0) (bit_seen lists loads x Decided 1) (bit_seen lists loads x Done 0)) begun))
+      where
+        outside : (x < low_in lists → ⊥) → (x < low_in lists + window → ⊥) → is_in (low_in lists) window x ≡ false
+        outside n m = ap (λ b. nat_le (low_in lists) x && b) (le-ltb x (low_in lists + window) (omega (arith, m))) ∙ off (nat_le (low_in lists) x)
+          where
+            off : (b : Bool) → (b && false) ≡ false
+            off true = refl
+            off false = refl
+
+-- ---- Rows change by steps of the core.
+
+stepped : (lists : List (List CoreEntry)) (s : table.State ℕ View) (h : Holds lists s) (id : ℕ) (v : View) (seat : get_elem? s.views id ≡ some v) (r : SeatRow) → v.rows ≡ r ∷ [] → (f : CoreRow → CoreRow)
+    → with_row_by f v.rows ≡ record { part = r.part; row = get_or (set h.state.rows r.part (f (row_of h.state r.part))) r.part no_row } ∷ []
+stepped lists s h id v seat r is f =
+    let its = mine lists s h id v seat r is in
+    ap (with_row_by f) is ∙ ap (λ (k : CoreRow). (record { part = r.part; row = k }) ∷ []) (sym (get_or-set_same h.state.rows r.part (f (row_of h.state r.part)) no_row its.1 ∙ ap f its.2))
+
+module _ (lists : List (List CoreEntry)) (s : table.State ℕ View) (h : Holds lists s) (id : ℕ) (v : View) (seat : get_elem? s.views id ≡ some v) where
+  pub settles_by : (part : ℕ) (e : CoreEntry) → IsSettling part e v → StepsTo (parts_in lists) h.state (act.Settle part) part (settle_view v)
+  settles_by part e k = let r : SeatRow = record { part = part; row = k.row } in record { allowed = may_settle lists s h id v seat r k.one e k.rest k.first; row = stepped lists s h id v seat r k.one settle_row }
+
+  pub drops_by : (m : MayDrop v) → StepsTo (parts_in lists) h.state (act.Stop m.row.part false) m.row.part (drop_view v)
+  drops_by m = record { allowed = may_lose lists s h id v seat m.row m.one m.entry m.rest m.first m.unsure; row = stepped lists s h id v seat m.row m.one (stop_row false) }
+
+  pub starts_by : (es : List CoreEntry) (m : MayStart (parts_in lists) es v) → list_all (may_cross (settled_of h.state) m.row.part) es ≡ true → StepsTo (parts_in lists) h.state (act.Start m.row.part es) m.row.part (start_view es v)
+  starts_by es m cross = record { allowed = can_start lists s h id v seat es m cross; row = stepped lists s h id v seat m.row m.one (start_row es) }
+
+-- ---- Boards that can be opened.
+
+blank_in : (k p : ℕ) → list_in (replicate k []) p ≡ []
+blank_in zero p = refl
+blank_in (suc k) zero = refl
+blank_in (suc k) (suc p) = blank_in k p
+
+blank_lawful : (n : ℕ) → AreLawful n (λ p. [])
+blank_lawful n =
+    record {
+      alone = λ p. refl;
+      registered = λ p x k. absurd (no_true k);
+      decided = λ p x d k. absurd (cc k);
+      closed = λ x d p k i. absurd (cc k);
+    }
+
+pub blank_opens : (n : ℕ) → n ≤ 62 → CanOpenBoard (replicate (n + 1) [])
+blank_opens n few =
+    let count : parts_in (replicate (n + 1) []) ≡ n = omega (arith, length-replicate {A = List CoreEntry} (n + 1) []) in
+    record {
+      few = subst (λ k. k ≤ 62) (sym count) few;
+      lawful = subst (AreLawful (parts_in (replicate (n + 1) []))) (λ i p. sym (blank_in (n + 1) p) i) (blank_lawful (parts_in (replicate (n + 1) [])));
+      fits = subst (λ l. count_new l ≤ low_in (replicate (n + 1) []) + window) (sym (blank_in (n + 1) 0)) (omega arith);
+    }
