@@ -55,6 +55,10 @@ IsNumberOf number (r ∷ q ∷ rs) = Unit {0}
 pub record IsSeatOf (part : ℕ) (row : CoreRow) (v : View) : Type 0 where
   pub one : v.rows ≡ record { part = part; row = row } ∷ []
 
+-- A seat has the row of this part, and no other.
+abbrev pub IsOfPart : ℕ → View → Type 0
+IsOfPart part v = (row : CoreRow) × IsSeatOf part row v
+
 -- ---- What the steps of the core make of the row of a seat that has one.
 
 abbrev pub with_row_by : (CoreRow → CoreRow) → List SeatRow → List SeatRow

@@ -3,6 +3,8 @@
 #![tactic(auto)]
 
 mod story;
+#[cfg(test)]
+mod threads;
 
 use crate::story::{Told, closed_board, open_board};
 use std::process::ExitCode;
