@@ -1,10 +1,11 @@
 //! The boards and what is asked of them.
-ghost use Rattle.std.specs.Prelude.{◌≡◌, ◌<◌, length};
+ghost use Rattle.std.specs.Prelude.{◌≡◌, ◌<◌, [], length};
+ghost use Rattle.txn_board.specs.Rows.{IsOfPart, opening_view};
 
 use std::alloc::{AllocError, Global};
 use std::marker::Brand;
 use txn_base::{CoreEntry, Decision, Status, TxnId};
-use txn_board::{Board, BoardSeat, Naming, Opened, OwnStart, Promise};
+use txn_board::{Board, BoardSeat, Naming, Opened, OwnStart, Promise, Seats};
 use txn_core::Skeletons;
 
 /// What a disk that tells nothing promises: each call of a board is then allowed, and its answers are as they are.
@@ -90,6 +91,22 @@ fn commit<N: Naming>(
     }
 }
 
+/// The seats of the two parts.
+pub fn deal_parts<N: Naming>(
+    board: &Board<Untold, N>,
+    seats: &mut Seats<N>,
+) -> (BoardSeat<N>, BoardSeat<N>)
+    requires all { seats.old ≡ opening_view N.lists }
+    requires two { length N.lists ≡ 2 }
+    ensures coord { IsOfPart 0 result.0 }
+    ensures part { IsOfPart 1 result.1 }
+    ensures rest { seats.new.rows ≡ [] }
+{
+    let coord = board.deal(seats);
+    let part = board.deal(seats);
+    (coord, part)
+}
+
 /// Deals the seats of a board of one part beside the coordinator, and commits a transaction.
 fn with_board<N: Naming>(opened: Opened<Untold>, txn: u64) -> Told
     requires table { opened.table.shared.table_id ≡ N.table }
@@ -98,8 +115,7 @@ fn with_board<N: Naming>(opened: Opened<Untold>, txn: u64) -> Told
     requires small { txn < 1000 }
 {
     let (board, mut seats) = opened.named::<N>();
-    let mut coord = board.deal(&mut seats);
-    let mut part = board.deal(&mut seats);
+    let (mut coord, mut part) = deal_parts(&board, &mut seats);
     let mut reader = seats.readers();
     commit(&board, &mut coord, &mut part, &mut reader, txn)
 }

@@ -1,13 +1,13 @@
 //! Threads of two parts and of two readers at one board.
-ghost use Rattle.std.specs.Prelude.{◌≡◌, [], length};
-ghost use Rattle.txn_board.specs.Rows.{IsOfPart, opening_view};
+ghost use Rattle.std.specs.Prelude.{◌≡◌, length};
+ghost use Rattle.txn_board.specs.Rows.{IsOfPart};
 
-use crate::story::Untold;
+use crate::story::{Untold, deal_parts};
 use std::marker::Brand;
 use std::sync::Wait;
 use std::thread::{self, Threads};
 use txn_base::{Decision, Status};
-use txn_board::{Board, BoardSeat, Naming, Opened, OwnStart, Seats};
+use txn_board::{Board, BoardSeat, Naming, Opened, OwnStart};
 use txn_core::Skeletons;
 
 /// How many transactions the threads take through.
@@ -245,22 +245,6 @@ fn are_closed<N: Naming>(board: &Board<Untold, N>, reader: &mut BoardSeat<N>) ->
         right = is_closed(board, reader, txn) && right;
     }
     right
-}
-
-/// The seats of the two parts.
-fn deal_parts<N: Naming>(
-    board: &Board<Untold, N>,
-    seats: &mut Seats<N>,
-) -> (BoardSeat<N>, BoardSeat<N>)
-    requires all { seats.old ≡ opening_view N.lists }
-    requires two { length N.lists ≡ 2 }
-    ensures coord { IsOfPart 0 result.0 }
-    ensures part { IsOfPart 1 result.1 }
-    ensures rest { seats.new.rows ≡ [] }
-{
-    let coord = board.deal(seats);
-    let part = board.deal(seats);
-    (coord, part)
 }
 
 /// Joins the seats of the two parts, and closes the board with them.

@@ -2,7 +2,7 @@ use Rattle.std.proofs.Common.{◌≡◌, ◌<◌, [], length, sym, ap, ◌∙◌
 use Rattle.txn_board.specs.declared.view.View.{View}
 use Rattle.txn_board.specs.Rows.{opening_view, rest_view, dealt_view, IsOfPart}
 use Rattle.txn_board_tests.proofs.Dealing.{some_rows, two_rows, first_part, second_part}
-use Rattle.txn_board_tests.proofs.threads.deal_parts.Goals as goal
+use Rattle.txn_board_tests.proofs.story.deal_parts.Goals as goal
 
 pub deal-coord-requires : goal.deal-coord-requires
 deal-coord-requires g c = subst (λ (v : View). 0 < length v.rows) (sym c.requires.all) (some_rows g.N.Naming.lists c.requires.two)
