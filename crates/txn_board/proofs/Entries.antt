@@ -1,8 +1,8 @@
 -- What a list says of a transaction is what its entries of that transaction say.
-use Rattle.std.proofs.Common.{◌≡◌, inl, inr, ℕ, zero, suc, ◌+◌, ◌<◌, ◌≤◌, arith, Bool, true, false, ◌&&◌, ◌||◌, ◌==◌, if◌then◌else◌, List, [], ◌∷◌, ◌++◌, length, replicate, Some, None, refl, sym, ap, ◌∙◌, subst, append_assoc, length-append}
+use Rattle.std.proofs.Common.{◌≡◌, inl, inr, ℕ, zero, suc, ◌+◌, ◌<◌, arith, Bool, true, false, ◌&&◌, ◌||◌, ◌==◌, if◌then◌else◌, List, [], ◌∷◌, ◌++◌, length, replicate, Some, None, refl, sym, ap, ◌∙◌, subst, append_assoc, length-append}
 use Rattle.std.specs.Prelude.{Option, filter, is_some, unwrap_or, nat_le, not}
 use Rattle.std.specs.List.{list_any}
-use Rattle.std.proofs.lemmas.Bool.{eqb-true, ne_eqb}
+use Rattle.std.proofs.lemmas.Bool.{ne_eqb}
 use Rattle.std.proofs.lemmas.List.{append-nil}
 use Rattle.std.proofs.lemmas.List.Elements.{filter-append}
 use Rattle.std.proofs.lemmas.List.Folds.{list_any-append}
@@ -16,8 +16,7 @@ use Rattle.txn_base.specs.declared.core_entry.CoreEntry.{CoreEntry}
 use Rattle.txn_base.specs.declared.core_entry.CoreEntry.TheVariants as core
 use Rattle.txn_model.specs.Words.{all_follow, last_of}
 use Rattle.txn_model.specs.Skeletons.{same_txn}
-use Rattle.txn_model.specs.Coord.{is_new, is_add, has_new, in_parts, says_status, status_of, is_open, is_deciding, count_new, coord_allows, CoordLawful, decision_skeleton, closing_skeleton}
-use Rattle.txn_model.specs.Topic.{marks}
+use Rattle.txn_model.specs.Coord.{is_new, is_add, has_new, in_parts, says_status, status_of, is_open, is_deciding, count_new, coord_allows, CoordLawful}
 use Rattle.txn_model.specs.Deadlines.{txn}
 use Rattle.txn_model.proofs.Laws.Tests.{no_true, and_l, and_r, or_cases, or_l, or_r}
 use Rattle.txn_model.proofs.Laws.Lists.{all_follow-append}
@@ -25,7 +24,7 @@ use Rattle.txn_model.proofs.Laws.Logs.{txn_equal}
 use Rattle.txn_core.specs.Steps.{is_decision}
 use Rattle.txn_board.specs.declared.words.Word.{Word}
 use Rattle.txn_board.specs.declared.words.Word.TheVariants.{Registered, Decided, Done}
-use Rattle.txn_board.specs.Words.{decides, closes, ends, sets, tells, is_of, entries_of}
+use Rattle.txn_board.specs.Words.{decides, closes, ends, sets, is_of, entries_of}
 
 where_true : {V : Type 0} (b : Bool) (v : V) → is_some (if b then Some v else None) ≡ true → b ≡ true
 where_true true v h = refl

@@ -1,12 +1,11 @@
 -- A seat keeps its part at each call.
-use Rattle.std.proofs.Common.{◌≡◌, ℕ, Bool, true, false, List, [], ◌∷◌, Option, refl, sym, ap, ◌∙◌, subst}
+use Rattle.std.proofs.Common.{◌≡◌, ℕ, Bool, true, false, List, [], ◌∷◌, Option, refl, sym, ap, subst}
 use Rattle.txn_base.specs.declared.txn.Decision.{Decision}
 use Rattle.txn_base.specs.declared.core_entry.CoreEntry.{CoreEntry}
-use Rattle.txn_core.specs.declared.step.CoreRow.{CoreRow}
 use Rattle.txn_core.specs.Steps.{start_row, settle_row}
 use Rattle.txn_board.specs.declared.view.View.{View}
 use Rattle.txn_board.specs.Words.{window, IsIn, is_in}
-use Rattle.txn_board.specs.Rows.{low_in, with_row_by, IsSeatOf, IsOfPart, start_view, settle_view, loaded}
+use Rattle.txn_board.specs.Rows.{low_in, with_row_by, IsOfPart, settle_view, loaded}
 use Rattle.txn_board.specs.Calls.{start_where, StartsInside, StartsMarker, StartsClosing}
 use Rattle.txn_board.proofs.Marks.{in_of}
 

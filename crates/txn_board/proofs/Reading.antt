@@ -1,7 +1,6 @@
 -- What a reader's answer is, by the words that it looked at.
-use Rattle.std.proofs.Common.{◌≡◌, ◌≢◌, ℕ, ◌+◌, ◌<◌, ◌≤◌, arith, ◌==◌, Bool, true, false, ◌&&◌, if◌then◌else◌, List, [], ◌∷◌, ◌++◌, Option, Some, None, refl, sym, ap, ◌∙◌, subst, append_assoc}
+use Rattle.std.proofs.Common.{◌≡◌, ◌≢◌, ℕ, ◌+◌, ◌<◌, arith, ◌==◌, Bool, true, false, ◌&&◌, if◌then◌else◌, List, [], ◌∷◌, ◌++◌, Option, Some, None, refl, sym, ap, ◌∙◌, subst, append_assoc}
 use Rattle.std.specs.Prelude.{map, nat_le}
-use Rattle.std.specs.Int.{bit_at}
 use Rattle.std.proofs.lemmas.Bool.{eq-eqb, ne_eqb, lt-ltb, le-ltb}
 use Rattle.std.proofs.lemmas.List.{append-nil}
 use native.Mathlib.Decide.{dec_lt}
@@ -16,7 +15,7 @@ use Rattle.txn_board.specs.declared.words.Word.TheVariants.{Registered, Decided,
 use Rattle.txn_board.specs.Words.{window, is_in, offset, word_at, as_bit, is_bit_set, tells}
 use Rattle.txn_board.specs.Rows.{list_in, low_in, loaded, with_loads}
 use Rattle.txn_board.specs.Rule.{AreFound}
-use Rattle.txn_board.specs.Seen.{place_of, last_value, bit_seen, status_by, status_seen, words_of, word_places, looked, Looked, Reads, ReadsStatus}
+use Rattle.txn_board.specs.Seen.{place_of, last_value, bit_seen, status_by, words_of, word_places, looked, Looked, Reads, ReadsStatus}
 use Rattle.txn_board.proofs.Marks.{in_by, in_of}
 
 last_append : (b : ℕ) (xs ys : List Load) (place : ℕ) → last_value b (xs ++ ys) place ≡ last_value (last_value b xs place) ys place

@@ -1,6 +1,6 @@
 -- The rule as sentences, and which status lies in the window.
-use Rattle.std.proofs.Common.{◌≡◌, ◌⊎◌, ℕ, zero, suc, ◌+◌, ◌-◌, ◌<◌, ◌≤◌, arith, ◌==◌, Bool, true, false, ◌&&◌, if◌then◌else◌, List, [], ◌∷◌, ◌++◌, length, get_or, set, replicate, Option, Some, None, refl, sym, ap, ◌∙◌, subst}
-use Rattle.std.specs.Prelude.{Contains, slice_index, is_some, unwrap_or, nat_lt, nat_le}
+use Rattle.std.proofs.Common.{◌≡◌, ℕ, zero, suc, ◌+◌, ◌<◌, ◌≤◌, arith, ◌==◌, Bool, true, false, ◌&&◌, if◌then◌else◌, List, [], ◌∷◌, length, get_or, set, replicate, Some, None, refl, sym, ap, ◌∙◌, subst}
+use Rattle.std.specs.Prelude.{Contains, slice_index, unwrap_or, nat_le}
 use Rattle.std.specs.Int.{bit_at}
 use Rattle.std.specs.List.{list_any, list_all}
 use Rattle.std.proofs.lemmas.Bool.{lt-ltb, le-ltb}
@@ -10,13 +10,11 @@ use mathlib.Core.Option.{some}
 use lib.ListN.{get_elem?}
 use native.Mathlib.Decide.{dec_lt}
 use Rattle.atomic_table.specs.Table as table
-use Rattle.txn_base.specs.declared.txn.TxnId.{TxnId}
-use Rattle.txn_base.specs.declared.txn.Decision.{Decision}
 use Rattle.txn_base.specs.declared.txn.Status.{Status}
 use Rattle.txn_base.specs.declared.core_entry.CoreEntry.{CoreEntry}
 use Rattle.txn_base.specs.declared.txn.Status.TheVariants.{Open}
 use Rattle.txn_model.specs.Words.{last_of}
-use Rattle.txn_model.specs.Coord.{has_new, says_status, status_of, closing_of, count_new}
+use Rattle.txn_model.specs.Coord.{has_new, says_status, status_of, count_new}
 use Rattle.txn_model.specs.Deadlines.{txn, is_closed}
 use Rattle.txn_model.proofs.Laws.Tests.{no_true}
 use Rattle.txn_core.specs.declared.step.CoreRow.{CoreRow}

@@ -4,7 +4,7 @@ use Rattle.std.specs.Prelude.{map, nat_le, nat_lt, slice_index}
 use Rattle.std.specs.Int.{bit_at}
 use Rattle.std.specs.List.{list_any}
 use Rattle.std.specs.Option.{option_or}
-use Rattle.std.proofs.lemmas.Bool.{eq-eqb, eqb-true, lt-ltb, le-ltb, leb-true, ltb-true}
+use Rattle.std.proofs.lemmas.Bool.{eq-eqb, eqb-true, lt-ltb, le-ltb, ltb-true}
 use Rattle.std.proofs.lemmas.Nat.Bits.{bit_at-lt, bit_at-zero}
 use native.Mathlib.Decide.{dec_lt}
 use Rattle.atomic_table.specs.Table as table
@@ -13,10 +13,10 @@ use Rattle.txn_base.specs.declared.txn.Decision.TheVariants.{Commit, Abort}
 use Rattle.txn_base.specs.declared.txn.Status.{Status}
 use Rattle.txn_base.specs.declared.txn.Status.TheVariants.{Open}
 use Rattle.txn_base.specs.declared.core_entry.CoreEntry.{CoreEntry}
-use Rattle.txn_model.specs.Coord.{count_new, status_of, decision_of, in_parts}
+use Rattle.txn_model.specs.Coord.{count_new, in_parts}
 use Rattle.txn_model.specs.Topic.{marks, marker_of}
 use Rattle.txn_model.specs.Deadlines.{txn}
-use Rattle.txn_model.proofs.Laws.Tests.{no_true, and_l, and_r}
+use Rattle.txn_model.proofs.Laws.Tests.{no_true}
 use Rattle.txn_model.proofs.Laws.Lists.{first_of-append}
 use Rattle.txn_core.specs.Steps.{CoreState, settled_of, flight_of}
 use Rattle.txn_board.specs.declared.view.Load.{Load}
@@ -26,12 +26,12 @@ use Rattle.txn_board.specs.declared.words.Word.TheVariants.{Registered, Decided,
 use Rattle.txn_board.specs.Words.{window, IsIn, is_in, word_at, as_bit, is_bit_set, decides, ends, sets, teller, tells, is_of, StillHolds}
 use Rattle.txn_board.specs.Rows.{parts_in, list_in, low_in, with_loads}
 use Rattle.txn_board.specs.Rule.{LoadsHold, Holds, Once, IsTold}
-use Rattle.txn_board.specs.Seen.{place_of, last_value, bit_seen, status_by, decision_by, word_places, looked, Looked, Reads, ReadsStatus, ReadsDecision, ReadsPart, ReadsDone, IsStatusIn, IsDecisionIn, IsRegisteredIn, IsDoneIn}
+use Rattle.txn_board.specs.Seen.{place_of, last_value, bit_seen, status_by, decision_by, word_places, looked, Looked, ReadsStatus, ReadsDecision, ReadsPart, ReadsDone, IsStatusIn, IsDecisionIn, IsRegisteredIn, IsDoneIn}
 use Rattle.txn_board.proofs.Entries.{said_by, sets_of, any_more, begun_below, count_more}
-use Rattle.txn_board.proofs.Marks.{in_by, in_of}
+use Rattle.txn_board.proofs.Marks.{in_by}
 use Rattle.txn_board.proofs.Steps.{kept, log_lawful, below_settled}
 use Rattle.txn_board.proofs.Closings.{some_marker}
-use Rattle.txn_board.proofs.Reading.{one_bit, one_reads, not_begun, still_open, once_decided}
+use Rattle.txn_board.proofs.Reading.{one_bit, one_reads}
 use Rattle.txn_board.proofs.Meanings.{said_any, status_is, said_decision, one_decision}
 
 -- ---- A word as it stands, and one that was loaded before.

@@ -1,7 +1,6 @@
 -- The low watermark: what lies below it is closed, and it is the model's of the coordinator's log.
 use Rattle.std.proofs.Common.{◌≡◌, ℕ, zero, suc, ◌+◌, ◌<◌, ◌≤◌, arith, Bool, true, false, not, if◌then◌else◌, List, Option, Some, None, refl, sym, ap, ◌∙◌, subst}
 use Rattle.std.specs.Prelude.{find, unwrap_or, is_some}
-use Rattle.std.specs.List.{list_any}
 use native.Mathlib.Decide.{ℕ_discrete}
 use Rattle.txn_base.specs.declared.txn.TxnId.{TxnId}
 use Rattle.txn_base.specs.declared.txn.Decision.{Decision}

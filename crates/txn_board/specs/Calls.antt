@@ -222,3 +222,22 @@ DropsByStep lists c v = (m : MayDrop v) → StepsTo (parts_in lists) c (act.Stop
 
 abbrev pub StartsByStep : List (List CoreEntry) → CoreState → View → Type 0
 StartsByStep lists c v = (es : List CoreEntry) (m : MayStart (parts_in lists) es v) → MayCross c m.row.part es → StepsTo (parts_in lists) c (act.Start m.row.part es) m.row.part (start_view es v)
+
+-- ---- The same, in the window and outside it.
+
+abbrev pub StartsInsideWithin : Type 0 → List (List CoreEntry) → ℕ → ℕ → Bool → View → View → Type 0
+StartsInsideWithin made lists x count told before now = IsIn (low_in lists) window x → (n : ℕ) × StartsInside made lists x count n told before now
+
+abbrev pub StartsMarkerWithin : Type 0 → List (List CoreEntry) → ℕ → Option Decision → View → View → Type 0
+StartsMarkerWithin made lists x told before now = IsIn (low_in lists) window x → (n : ℕ) × StartsMarker made lists x n told before now
+
+abbrev pub StartsClosingWithin : Type 0 → List (List CoreEntry) → ℕ → Option ℕ → View → View → Type 0
+StartsClosingWithin made lists x missing before now = IsIn (low_in lists) window x → (reg done : ℕ) × StartsClosing made lists x reg done missing before now
+
+-- Where x isn't in the window, this is told, and the view is as it was.
+abbrev pub NothingOutside : List (List CoreEntry) → ℕ → Type 0 → View → View → Type 0
+NothingOutside lists x told before now = is_in (low_in lists) window x ≡ false → told × (now ≡ before)
+
+-- The part of the seat may start the marker of x, whichever decision that has.
+abbrev pub MayMark : ℕ → ℕ → View → Type 0
+MayMark n x v = (d : Decision) → MayStart n (marker_where x (Some d)) v

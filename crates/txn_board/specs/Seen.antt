@@ -50,6 +50,10 @@ status_told lists x = status_by (tells lists x Registered 0) (tells lists x Deci
 abbrev pub decision_told : (ℕ → List CoreEntry) → TxnId → Option Decision
 decision_told lists x = decision_by (tells lists x Decided 0) (tells lists x Decided 1)
 
+-- Of lists, this is so of each transaction.
+abbrev pub OfAnyLists : ((ℕ → List CoreEntry) → TxnId → Type 0) → Type 0
+OfAnyLists fact = (lists : ℕ → List CoreEntry) (x : TxnId) → fact lists x
+
 -- Of lists with a lawful log, this is so of each transaction.
 abbrev pub OfLawfulLogs : ((ℕ → List CoreEntry) → TxnId → Type 0) → Type 0
 OfLawfulLogs fact = (n : ℕ) (lists : ℕ → List CoreEntry) (x : TxnId) → CoordLawful n (lists 0) → fact lists x
@@ -109,6 +113,19 @@ pub record ReadsPart (made : Type 0) (lists : List (List CoreEntry)) (x part : �
 pub record ReadsDone (made : Type 0) (lists : List (List CoreEntry)) (x told : ℕ) (loads : List Load) (before now : View) : Type 0 where
   pub reads : Reads made lists x (Done ∷ []) loads before now
   pub is : (p : ℕ) → p < 64 → is_bit_set told p ≡ bit_seen lists loads x Done p
+
+-- By some loads it is told so.
+abbrev pub StatusIsRead : Type 0 → List (List CoreEntry) → ℕ → Option Status → View → View → Type 0
+StatusIsRead made lists x told before now = (loads : List Load) × ReadsStatus made lists x told loads before now
+
+abbrev pub DecisionIsRead : Type 0 → List (List CoreEntry) → ℕ → Option Decision → View → View → Type 0
+DecisionIsRead made lists x told before now = (loads : List Load) × ReadsDecision made lists x told loads before now
+
+abbrev pub PartIsRead : Type 0 → List (List CoreEntry) → ℕ → ℕ → Bool → View → View → Type 0
+PartIsRead made lists x part told before now = (loads : List Load) × ReadsPart made lists x part told loads before now
+
+abbrev pub DoneIsRead : Type 0 → List (List CoreEntry) → ℕ → ℕ → View → View → Type 0
+DoneIsRead made lists x told before now = (loads : List Load) × ReadsDone made lists x told loads before now
 
 -- A reader who is told a status of a transaction that isn't closed knows that it lies in the window.
 abbrev pub ToldWithin : Type 0 → List (List CoreEntry) → ℕ → Status → Type 0

@@ -2,7 +2,6 @@
 ghost use Rattle.std.specs.Prelude.{◌≡◌, ◌≤◌, ◌+◌, ℕ, List, [], Some, is_some, replicate};
 ghost use mathlib.Core.List.{IsPrefix};
 ghost use Rattle.atomic_table.specs.Table.{State, opening};
-ghost use Rattle.txn_base.specs.declared.txn.TxnId.{TxnId};
 ghost use Rattle.txn_base.specs.declared.txn.Decision.TheVariants.{Commit, Abort};
 ghost use Rattle.txn_base.specs.declared.txn.Status.{Status};
 ghost use Rattle.txn_base.specs.declared.core_entry.CoreEntry.{CoreEntry};
@@ -21,19 +20,19 @@ ghost use Rattle.txn_board.specs.Rows.{parts_in, list_in, low_in, opening_view};
 ghost use Rattle.txn_board.specs.Rule.{CanOpenBoard, Holds, Once, AtEachMoment, OfEachView, OfEachLoad, OpensBy, RowsAreCores, HaveSeats, SeatsAreApart};
 ghost use Rattle.txn_board.specs.Rule.{IsSettledBelow, FitsWindow, LoadsStay, TwoBitsDecide, IsUnclosed};
 ghost use Rattle.txn_board.specs.Calls.{IsOfRow, SettlesByStep, DropsByStep, StartsByStep};
-ghost use Rattle.txn_board.specs.Seen.{OfLawfulLogs, ToldWithin, status_told, decision_told, IsWordIn, IsStatusIn};
+ghost use Rattle.txn_board.specs.Seen.{OfAnyLists, OfLawfulLogs, ToldWithin, status_told, decision_told, IsWordIn, IsStatusIn};
 
 use crate::board::Promise;
 
 /// The bits stand for what the lists say: that a transaction is begun, its parts, its decision, its closing and its markers. So
 /// they make its status.
 pub fn bits_are_what_the_lists_say()
-    ensures begun { (lists : ℕ → List CoreEntry) (x : TxnId) → tells lists x Registered 0 ≡ has_new (lists 0) x }
-    ensures parts { (lists : ℕ → List CoreEntry) (x : TxnId) (p : ℕ) → tells lists x Registered (p + 1) ≡ in_parts (lists 0) x (p + 1) }
+    ensures begun { OfAnyLists (λ lists x. tells lists x Registered 0 ≡ has_new (lists 0) x) }
+    ensures parts { OfAnyLists (λ lists x. (p : ℕ) → tells lists x Registered (p + 1) ≡ in_parts (lists 0) x (p + 1)) }
     ensures commit { OfLawfulLogs (λ lists x. tells lists x Decided 0 ≡ is_decision (decision_of (lists 0) x) Commit) }
     ensures abort { OfLawfulLogs (λ lists x. tells lists x Decided 1 ≡ is_decision (decision_of (lists 0) x) Abort) }
-    ensures closed { (lists : ℕ → List CoreEntry) (x : TxnId) → tells lists x Done 0 ≡ is_some (closing_of (lists 0) x) }
-    ensures marked { (lists : ℕ → List CoreEntry) (x : TxnId) (p : ℕ) → tells lists x Done (p + 1) ≡ is_some (marker_of (lists (p + 1)) x) }
+    ensures closed { OfAnyLists (λ lists x. tells lists x Done 0 ≡ is_some (closing_of (lists 0) x)) }
+    ensures marked { OfAnyLists (λ lists x. (p : ℕ) → tells lists x Done (p + 1) ≡ is_some (marker_of (lists (p + 1)) x)) }
     ensures status { OfLawfulLogs (λ lists x. status_told lists x ≡ status_of (lists 0) x) }
     ensures decision { OfLawfulLogs (λ lists x. decision_told lists x ≡ decision_of (lists 0) x) }
 {}

@@ -1,8 +1,7 @@
 //! What a seat reads off the words.
-ghost use Rattle.std.specs.Prelude.{◌≡◌, true, List};
-ghost use Rattle.txn_board.specs.declared.view.Load.{Load};
+ghost use Rattle.std.specs.Prelude.{◌≡◌, true};
 ghost use Rattle.txn_board.specs.Rule.{IsTold};
-ghost use Rattle.txn_board.specs.Seen.{status_by, decision_by, ReadsStatus, ReadsDecision, ReadsPart, ReadsDone};
+ghost use Rattle.txn_board.specs.Seen.{status_by, decision_by, StatusIsRead, DecisionIsRead, PartIsRead, DoneIsRead};
 ghost use Rattle.txn_board.specs.Seen.{IsStatusIn, IsDecisionIn, IsRegisteredIn, IsDoneIn};
 
 use crate::board::{Board, BoardSeat, Naming, Promise};
@@ -43,7 +42,7 @@ pub(crate) fn decision_told(commit: bool, abort: bool) -> Option<Decision>
 impl<T: Promise, N: Naming> Board<T, N> {
     /// The status of a transaction; none where it isn't begun, and past the window.
     pub fn status(&self, seat: &mut BoardSeat<N>, txn: u64) -> Option<Status>
-        ensures read { (loads : List Load) × ReadsStatus T.made N.lists txn result loads seat.old seat.new }
+        ensures read { StatusIsRead T.made N.lists txn result seat.old seat.new }
         ensures told { IsTold T.made N.lists txn (IsStatusIn txn result) }
     {
         let reg = self.look(seat, txn, Word::Registered);
@@ -62,7 +61,7 @@ impl<T: Promise, N: Naming> Board<T, N> {
 
     /// The decision of a transaction; none where there is none yet, and past the window.
     pub fn decision(&self, seat: &mut BoardSeat<N>, txn: u64) -> Option<Decision>
-        ensures read { (loads : List Load) × ReadsDecision T.made N.lists txn result loads seat.old seat.new }
+        ensures read { DecisionIsRead T.made N.lists txn result seat.old seat.new }
         ensures told { IsTold T.made N.lists txn (IsDecisionIn txn result) }
     {
         let dec = self.look(seat, txn, Word::Decided);
@@ -71,7 +70,7 @@ impl<T: Promise, N: Naming> Board<T, N> {
 
     /// Whether a part, from 1 to 63, is one of a transaction's.
     pub fn registered(&self, seat: &mut BoardSeat<N>, txn: u64, part: u32) -> bool
-        ensures read { (loads : List Load) × ReadsPart T.made N.lists txn part result loads seat.old seat.new }
+        ensures read { PartIsRead T.made N.lists txn part result seat.old seat.new }
         ensures told { IsTold T.made N.lists txn (IsRegisteredIn txn part result) }
     {
         let reg = self.look(seat, txn, Word::Registered);
@@ -80,7 +79,7 @@ impl<T: Promise, N: Naming> Board<T, N> {
 
     /// Which parts have a marker of a transaction, bit by bit, and in bit 0 whether it is closed.
     pub fn done(&self, seat: &mut BoardSeat<N>, txn: u64) -> u64
-        ensures read { (loads : List Load) × ReadsDone T.made N.lists txn result loads seat.old seat.new }
+        ensures read { DoneIsRead T.made N.lists txn result seat.old seat.new }
         ensures told { IsTold T.made N.lists txn (IsDoneIn txn result) }
     {
         self.look(seat, txn, Word::Done)

@@ -1,12 +1,12 @@
 //! The steps at which a part starts entries.
 ghost use Rattle.std.specs.Prelude.{◌≡◌, ◌<◌, ◌*◌, false, ℕ, Some, None};
 ghost use Rattle.std.specs.Result.{result_err};
-ghost use Rattle.txn_base.specs.declared.txn.Decision.{Decision};
-ghost use Rattle.txn_board.specs.Words.{window, IsIn, is_in};
-ghost use Rattle.txn_board.specs.Rows.{parts_in, low_in, loaded};
+ghost use Rattle.txn_board.specs.Words.{window};
+ghost use Rattle.txn_board.specs.Rows.{parts_in, loaded};
 ghost use Rattle.txn_board.specs.Rule.{Found};
-ghost use Rattle.txn_board.specs.Calls.{MayStart, MayStartIn, MayClose, IsOwnIn, own_entries, start_where, marker_where, row_step};
-ghost use Rattle.txn_board.specs.Calls.{AllowsStep, start_place, bit_found, first_missing, StartsInside, StartsMarker, StartsClosing};
+ghost use Rattle.txn_board.specs.Calls.{MayStart, MayStartIn, MayClose, IsOwnIn, own_entries, start_where, row_step};
+ghost use Rattle.txn_board.specs.Calls.{AllowsStep, start_place, bit_found, first_missing, MayMark};
+ghost use Rattle.txn_board.specs.Calls.{StartsInsideWithin, StartsMarkerWithin, StartsClosingWithin, NothingOutside};
 
 use crate::board::{Board, BoardSeat, Looks, Naming, Promise};
 use crate::fill::WINDOW;
@@ -100,8 +100,8 @@ impl<T: Promise, N: Naming> Board<T, N> {
     /// the window, nothing starts, and the answer is false.
     pub fn start_in(&self, seat: &mut BoardSeat<N>, txn: u64, count: u64) -> bool
         requires { T.made → MayStartIn (parts_in N.lists) txn count seat.old }
-        ensures within { IsIn (low_in N.lists) window txn → (n : ℕ) × StartsInside T.made N.lists txn count n result seat.old seat.new }
-        ensures outside { is_in (low_in N.lists) window txn ≡ false → (result ≡ false) × (seat.new ≡ seat.old) }
+        ensures within { StartsInsideWithin T.made N.lists txn count result seat.old seat.new }
+        ensures outside { NothingOutside N.lists txn (result ≡ false) seat.old seat.new }
     {
         let Some(place) = self.place(txn, Word::Registered) else {
             return false;
@@ -113,9 +113,9 @@ impl<T: Promise, N: Naming> Board<T, N> {
 
     /// A part starts the marker of a transaction, where that is decided. Where it isn't, or isn't in the window, nothing starts.
     pub fn start_marker(&self, seat: &mut BoardSeat<N>, txn: u64) -> Option<Decision>
-        requires { T.made → (d : Decision) → MayStart (parts_in N.lists) (marker_where txn (Some d)) seat.old }
-        ensures within { IsIn (low_in N.lists) window txn → (n : ℕ) × StartsMarker T.made N.lists txn n result seat.old seat.new }
-        ensures outside { is_in (low_in N.lists) window txn ≡ false → (result ≡ None) × (seat.new ≡ seat.old) }
+        requires { T.made → MayMark (parts_in N.lists) txn seat.old }
+        ensures within { StartsMarkerWithin T.made N.lists txn result seat.old seat.new }
+        ensures outside { NothingOutside N.lists txn (result ≡ None) seat.old seat.new }
     {
         let place = self.place(txn, Word::Decided)?;
         let dec = self.step::<Brand>(seat, place, RowStep::Marker { txn });
@@ -126,8 +126,8 @@ impl<T: Promise, N: Naming> Board<T, N> {
     /// that has none, and nothing starts; it is 0 where the transaction isn't in the window.
     pub fn start_close(&self, seat: &mut BoardSeat<N>, txn: u64) -> Result<(), u32>
         requires { T.made → MayClose (parts_in N.lists) txn seat.old }
-        ensures within { IsIn (low_in N.lists) window txn → (reg done : ℕ) × StartsClosing T.made N.lists txn reg done (result_err result) seat.old seat.new }
-        ensures outside { is_in (low_in N.lists) window txn ≡ false → (result_err result ≡ Some 0) × (seat.new ≡ seat.old) }
+        ensures within { StartsClosingWithin T.made N.lists txn (result_err result) seat.old seat.new }
+        ensures outside { NothingOutside N.lists txn (result_err result ≡ Some 0) seat.old seat.new }
     {
         let Some(registered) = self.place(txn, Word::Registered) else {
             return Err(0);

@@ -1,4 +1,4 @@
-use Rattle.std.proofs.Common.{◌≡◌, sym, ap, subst, refl}
+use Rattle.std.proofs.Common.{ap}
 use Rattle.txn_board.specs.Words.{word_at}
 use Rattle.txn_board.specs.Rows.{low_in}
 use Rattle.txn_board.proofs.Telling.{stood}

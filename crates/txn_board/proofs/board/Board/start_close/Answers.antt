@@ -1,11 +1,10 @@
-use Rattle.std.proofs.Common.{rules, ◌≡◌, ◌∙◌, List, ℕ, Some, None, sym, ap, subst, arith}
-use Rattle.txn_base.specs.declared.core_entry.CoreEntry.{CoreEntry}
+use Rattle.std.proofs.Common.{◌≡◌, ◌∙◌, List, ℕ, Some, None, sym, ap, subst, arith}
 use Rattle.txn_board.specs.declared.view.View.{View}
 use Rattle.txn_board.specs.declared.words.Word.TheVariants.{Registered, Done}
-use Rattle.txn_board.specs.Words.{window, IsIn, word_at}
+use Rattle.txn_board.specs.Words.{window}
 use Rattle.txn_board.specs.Rows.{parts_in, low_in, loaded}
 use Rattle.txn_board.specs.Rule.{Holds, AllowsTo, Found}
-use Rattle.txn_board.specs.Calls.{IsOfRow, MayClose, first_missing, closing_where, start_where, start_place}
+use Rattle.txn_board.specs.Calls.{IsOfRow, MayClose, first_missing, closing_where, start_where}
 use Rattle.txn_board.proofs.Marks.{place_within}
 use Rattle.txn_board.proofs.Steps.{looks, guarded_found}
 use Rattle.txn_board.proofs.Startings.{placed}

@@ -1,5 +1,4 @@
 use Rattle.std.proofs.Common.{◌≡◌, List, ℕ, sym, ap, ◌∙◌, subst, arith}
-use Rattle.txn_base.specs.declared.core_entry.CoreEntry.{CoreEntry}
 use Rattle.txn_board.specs.declared.view.View.{View}
 use Rattle.txn_board.specs.Rows.{IsNumberOf, loaded}
 use Rattle.txn_board.specs.Rule.{Holds, AllowsTo}
