@@ -4,11 +4,13 @@
 
 mod measure;
 mod story;
+mod surely;
 #[cfg(test)]
 mod threads;
 
 use crate::measure::{Work, measure};
 use crate::story::{Told, closed_board, open_board};
+use crate::surely::sure_board;
 use std::alloc::AllocError;
 use std::env;
 use std::process::ExitCode;
@@ -62,6 +64,10 @@ fn report(rt: HostRuntime) -> Result<(), std::io::Error> {
     match closed_board(rt.alloc()) {
         Ok(told) => tell(rt, "a board opened behind an aborted one", told)?,
         Err(_) => println!(rt; "a board opened behind an aborted one: no memory")?,
+    }
+    match sure_board(rt.alloc()) {
+        Ok(told) => println!(rt; "a decision whose conditions are shown: {:?}", told)?,
+        Err(_) => println!(rt; "a decision whose conditions are shown: no memory")?,
     }
     Ok(())
 }
