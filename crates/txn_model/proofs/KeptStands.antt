@@ -72,4 +72,8 @@ module _ (names : List (List ℕ)) (files : Files) (w : World) (f : Flights) (l 
 
 -- and they are sound where the state is lawful
 pub kept_sound : (names : List (List ℕ)) (files : Files) (t : TableState) → LawfulState t → StandsForKept names files t.world t.flights → Sound names files
-kept_sound names files t s k = (with_kept t.world t.flights k.0, k.1, lawful_kept t.world t.flights k.0 s.lawful s.flights)
+kept_sound names files t s k = record {
+  world = with_kept t.world t.flights k.0;
+  stands = k.1;
+  lawful = lawful_kept t.world t.flights k.0 s.lawful s.flights;
+}

@@ -111,4 +111,4 @@ world_is_lawful =
     }
 
 pub files_are_sound : Sound names files
-files_are_sound = (world, files_stand, world_is_lawful)
+files_are_sound = record { world = world; stands = files_stand; lawful = world_is_lawful }

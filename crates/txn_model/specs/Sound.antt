@@ -51,8 +51,10 @@ pub record StandsFor (names : List (List ℕ)) (files : Files) (w : World) : Typ
   pub others : NoOthers names files
 
 -- With these names, the files are sound: they stand for a lawful world.
-abbrev pub Sound : List (List ℕ) → Files → Type 0
-Sound names files = (w : World) × StandsFor names files w × Lawful w
+pub record Sound (names : List (List ℕ)) (files : Files) : Type 0 where
+  pub world : World
+  pub stands : StandsFor names files world
+  pub lawful : Lawful world
 
 -- With these names, the files stand for what a stop keeps of the world w and the flights f.
 abbrev pub StandsForKept : List (List ℕ) → Files → World → Flights → Type 0

@@ -52,6 +52,12 @@ MarkersStand closings c parts = (x : TxnId) (d : Decision) (p : ℕ) → closing
 abbrev pub ClosedComplete : List CoreEntry → (ℕ → List CoreEntry) → Type 0
 ClosedComplete c parts = MarkersStand c c parts
 
+-- Each list of a world is lawful by itself, whatever stands in the others.
+pub record EachLawful (w : World) : Type 0 where
+  pub coord : CoordLawful (length w.names) (log_of w)
+  pub topics : (p : ℕ) → TopicLawful (list_at w.topics p)
+  pub subs : (p : ℕ) → AckLawful (list_at w.subs p)
+
 -- A world is lawful where each of its lists is, and the three rules across lists hold.
 pub record Lawful (w : World) : Type 0 where
   pub names : NamesLawful w.names
