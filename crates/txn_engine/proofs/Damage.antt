@@ -11,6 +11,7 @@ use Rattle.txn_base.specs.declared.txn.TxnId.{TxnId}
 use Rattle.txn_base.specs.Frames.{records}
 use Rattle.txn_model.specs.Names.{part_of}
 use Rattle.txn_model.specs.Topic.{limit_of}
+use Rattle.txn_model.specs.Replies.{is_fault}
 use Rattle.txn_buffer.specs.Record.{IsOutside}
 use Rattle.txn_buffer.specs.View.{TopicView}
 use Rattle.txn_buffer.specs.declared.error.TopicError.{TopicError}
@@ -42,6 +43,10 @@ pub unknown_sound : (part : List ℕ) (told : Reply) → (told ≡ reply.No (no.
 unknown_sound part told (inl e) = ap is_damage e
 unknown_sound part told (inr e) = ap is_damage e
 
+pub unknown_quiet : (part : List ℕ) (told : Reply) → (told ≡ reply.No (no.UnknownPart part)) ⊎ (told ≡ reply.No no.NoMemory) → is_fault told ≡ false
+unknown_quiet part told (inl e) = ap is_fault e
+unknown_quiet part told (inr e) = ap is_fault e
+
 pub refusal_sound : (e : CoordError) → is_damage (reply.No (coord_refusal e)) ≡ false
 refusal_sound coord_error.NotFound = refl
 refusal_sound (coord_error.NotOpen status) = refl
@@ -62,6 +67,11 @@ pub why_sound : (topic : List ℕ) (why : WhyNot) → is_damage (reply.No (why_r
 why_sound topic why_not.NotFound = refl
 why_sound topic (why_not.NotOpen status) = refl
 why_sound topic why_not.NotRegistered = refl
+
+pub why_quiet : (topic : List ℕ) (why : WhyNot) → is_fault (reply.No (why_refusal topic why)) ≡ false
+why_quiet topic why_not.NotFound = refl
+why_quiet topic (why_not.NotOpen status) = refl
+why_quiet topic why_not.NotRegistered = refl
 
 pub published_sound : (topic : List ℕ) (count : ℕ) (r : Result ℕ TopicError) → ((place : ℕ) → r ≡ Err (topic_error.Damaged place) → ⊥) → is_damage (publish_reply topic count r) ≡ false
 published_sound topic count (Ok place) none = refl

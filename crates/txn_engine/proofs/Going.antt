@@ -1,6 +1,7 @@
 -- How an engine goes on through a call of one of its parts.
-use Rattle.std.proofs.Common.{◌≡◌, ◌⊎◌, ⊎_elim, inl, inr, ℕ, zero, suc, ◌+◌, ◌<◌, ◌≤◌, List, [], ◌∷◌, length, All, IsTrue, refl, sym, ap, ◌∙◌, subst, arith}
+use Rattle.std.proofs.Common.{◌≡◌, ◌⊎◌, ⊎_elim, inl, inr, ℕ, zero, suc, ◌+◌, ◌<◌, ◌≤◌, true, false, List, [], ◌∷◌, length, All, IsTrue, refl, sym, ap, ◌∙◌, subst, arith}
 use Rattle.std.proofs.Math.ListN.{get_or}
+use Rattle.std.proofs.lemmas.Bool.{false≢true}
 use Rattle.std.proofs.lemmas.List.Elements.{All-head, All-tail, All-cons, All-nil}
 use Rattle.txn_base.specs.declared.disk.Disk.{Ghosts}
 use Rattle.txn_base.specs.Moves.{After, FaultsIn}
@@ -15,7 +16,9 @@ use Rattle.txn_base.specs.Outside.{Rose}
 use Rattle.txn_base.specs.Records.{IsCoordEntry}
 use Rattle.txn_base.proofs.Laws.{weaker, goes_on, started}
 use Rattle.txn_ledger.specs.Ledger.{IsFile, StandsIn}
+use Rattle.txn_base.specs.declared.reply.Reply.{Reply}
 use Rattle.txn_model.specs.Allowed.{IsAllowed}
+use Rattle.txn_model.specs.Replies.{is_fault}
 use Rattle.txn_model.specs.Sound.{ledger_file, RecordsOf, IsBareRecord}
 use Rattle.txn_model.specs.Table.{in_coord, in_topic}
 use Rattle.txn_model.specs.World.{Lawful}
@@ -25,14 +28,17 @@ use Rattle.txn_coordinator.specs.View as coordinator
 use Rattle.txn_coordinator.specs.View.{CoordView, coord_batch}
 use Rattle.txn_engine.specs.Above.{StandsAbove, KeepsAbove, KeepsAboveIf}
 use Rattle.txn_engine.specs.Files.{OnlyLedgers}
+use Rattle.txn_engine.specs.Growing.{Grows, GrowsWorld}
 use Rattle.txn_engine.specs.Kept.{AreTopics, IsEngine}
 use Rattle.txn_engine.specs.Table.{world_of}
 use Rattle.txn_engine.specs.Told.{CountsWithin, EngineGoesOn, FaultsWithin}
 use Rattle.txn_engine.specs.View.{EngineView, IsWhole, IsTied, IsBacked, replaced}
-use Rattle.txn_engine.proofs.Above.{coord_above, topic_above}
+use Rattle.txn_engine.proofs.Above.{coord_above, coord_worlds, topic_above, topic_worlds}
 use Rattle.txn_engine.proofs.Files.{only_one, only_then, images_append, images_then}
+use Rattle.txn_engine.proofs.Growing.{appended_grows, files_first, files_then, worlds_first, worlds_then}
 use Rattle.txn_engine.proofs.Lists.{at_index, all_replaced}
-use Rattle.txn_engine.proofs.Worlds.{some_topic}
+use Rattle.txn_engine.proofs.Whole.{settled_topics}
+use Rattle.txn_engine.proofs.Worlds.{coord_backed, topics_backed, some_topic}
 
 -- ---- Counts.
 
@@ -124,10 +130,16 @@ module _ {D : Type 0} (on : Ghosts D) where
         topics = subst (λ (ts : List TopicView). All (λ t. Backed StandsIn (on.image disk) t.content) ts) (sym topics) backed.topics;
       };
       images = started on disk (KeepsAboveIf (IsTied v) v.names) (λ c at tied floor above. above);
+      grows = files_first on disk;
+      worlds = worlds_first on v.names disk;
       elsewhere = started on disk (OnlyLedgers (length v.names)) (λ c at file apart. refl);
       others = λ file apart. refl;
       cause = counts_still (length v.names) (on.faults disk) (on.part_faults disk) X none;
     }
+
+    -- so it is by a reply that tells of no fault
+    pub goes_quiet : (told : Reply) → is_fault told ≡ false → (v : EngineView) (disk : D) → IsWhole v → IsBacked (on.image disk) v → EngineGoesOn on (is_fault told ≡ true) v v disk disk
+    goes_quiet told quiet v disk whole backed = goes_still (is_fault told ≡ true) (λ is. false≢true (sym quiet ∙ is)) v v disk whole backed refl refl refl
 
     -- the same from a view with the same parts
     pub goes_from : (X : Type 0) (u v v' : EngineView) (old new : D) → v.names ≡ u.names → v.coord ≡ u.coord → v.topics ≡ u.topics → EngineGoesOn on X v v' old new → EngineGoesOn on X u v' old new
@@ -141,6 +153,8 @@ module _ {D : Type 0} (on : Ghosts D) where
           backed = goes.backed;
           images = weaker on (KeepsAboveIf (IsTied v) v.names) (KeepsAboveIf (IsTied u) u.names) old new
               (λ d c at keeps was. subst (λ (ns : List (List ℕ)). KeepsAbove ns d c) names (keeps (tied was))) goes.images;
+          grows = goes.grows;
+          worlds = subst (λ (ns : List (List ℕ)). After on (GrowsWorld ns) old new) names goes.worlds;
           elsewhere = subst (λ (ns : List (List ℕ)). After on (OnlyLedgers (length ns)) old new) names goes.elsewhere;
           others = subst (λ (ns : List (List ℕ)). OnlyLedgers (length ns) (on.seen old) (on.seen new)) names goes.others;
           cause = subst (λ (ns : List (List ℕ)). FaultsWithin on (length ns) old new X) names goes.cause;
@@ -154,6 +168,8 @@ module _ {D : Type 0} (on : Ghosts D) where
       tied = goes.tied;
       backed = goes.backed;
       images = goes.images;
+      grows = goes.grows;
+      worlds = goes.worlds;
       elsewhere = goes.elsewhere;
       others = goes.others;
       cause = record { later = goes.cause.later; parts_later = goes.cause.parts_later; failed = λ y. goes.cause.failed (from y); others = goes.cause.others };
@@ -170,6 +186,8 @@ module _ {D : Type 0} (on : Ghosts D) where
           (λ d c at keeps. keeps)
           (λ d e c at keeps mid_at more was floor above.
           subst (λ (ns : List (List ℕ)). StandsAbove ns floor c) one.names (more (one.tied was) floor (subst (λ (ns : List (List ℕ)). StandsAbove ns floor e) (sym one.names) (keeps was floor above))));
+      grows = files_then on old mid new one.grows two.grows;
+      worlds = worlds_then on u.names old mid new one.worlds (subst (λ (ns : List (List ℕ)). After on (GrowsWorld ns) mid new) one.names two.worlds);
       elsewhere = images_then on (length u.names) old mid new one.elsewhere
           (subst (λ (ns : List (List ℕ)). After on (OnlyLedgers (length ns)) mid new) one.names two.elsewhere);
       others = only_then (length u.names) (on.seen old) (on.seen mid) (on.seen new) one.others (subst (λ (ns : List (List ℕ)). OnlyLedgers (length ns) (on.seen mid) (on.seen new)) one.names two.others);
@@ -182,17 +200,21 @@ module _ {D : Type 0} (on : Ghosts D) where
       pub coord_goes : (X Y : Type 0) (e : CoordEntry) (v' : EngineView) → IsCoordEntry e → (IsTied v → Lawful (world_of v) → IsAllowed (in_coord e) (world_of v)) → v'.names ≡ v.names → v'.topics ≡ v.topics → IsTrue v'.coord.whole ⊎ X
           → (coordinator.IsFrontOf v.coord → coordinator.IsFrontOf v'.coord) → Backed StandsIn (on.image new) v'.coord.content → After on (Appends IsFile StandsIn v.coord.content (coord_batch e)) old new → Elsewhere v.coord.content.key (on.seen old) (on.seen new)
           → FaultsIn on v.coord.content.key.part old new Y → (X → Y) → EngineGoesOn on X v v' old new
-      coord_goes X Y e v' fits allowed names topics now tied coord_backed since others cause means = record {
+      coord_goes X Y e v' fits allowed names topics now tied coord_here since others cause means = record {
         names = names;
         whole = ⊎_elim (λ yes. inl (record { coord = yes; topics = subst (λ (ts : List TopicView). All (λ t. IsTrue t.whole) ts) (sym topics) whole.topics })) (λ x. inr x) now;
         tied = λ was. record { coord = tied was.coord; topics = subst (All topic.IsFrontOf) (sym topics) was.topics };
         backed = record {
-          coord = coord_backed;
+          coord = coord_here;
           topics = subst (λ (ts : List TopicView). All (λ t. Backed StandsIn (on.image new) t.content) ts) (sym topics)
               (topics_still_backed old new v.coord.content (coord_batch e) since v.limits 0 1 v.topics is.coord.key (omega arith) is.topics backed.topics);
         };
         images = weaker on (Appends IsFile StandsIn v.coord.content (coord_batch e)) (KeepsAboveIf (IsTied v) v.names) old new
             (λ d c at step was. coord_above v is whole (on.image old) backed e fits (allowed was) d c at step) since;
+        grows = weaker on (Appends IsFile StandsIn v.coord.content (coord_batch e)) Grows old new
+            (λ d c at step. appended_grows v.coord.content (coord_batch e) d c (coord_backed v is whole (on.image old) backed d at) step) since;
+        worlds = weaker on (Appends IsFile StandsIn v.coord.content (coord_batch e)) (GrowsWorld v.names) old new
+            (λ d c at step. coord_worlds v is whole (on.image old) backed e fits d c at step) since;
         elsewhere = images_append on (length v.names) 0 v.coord.content (coord_batch e) old new is.coord.key (omega arith) since;
         others = only_one (length v.names) 0 v.coord.content.key (on.seen old) (on.seen new) is.coord.key (omega arith) others;
         cause = counts_of (length v.names) v.coord.content.key.part (on.faults old) (on.faults new) (on.part_faults old) (on.part_faults new) Y X
@@ -225,6 +247,11 @@ module _ {D : Type 0} (on : Ghosts D) where
           };
           images = weaker on (Appends IsFile StandsIn at.content (topic_batch es)) (KeepsAboveIf (IsTied v) v.names) old new
               (λ d c from step was. topic_above v is whole (on.image old) backed j below es each (allowed was) d c from step) since;
+          grows = weaker on (Appends IsFile StandsIn at.content (topic_batch es)) Grows old new
+              (λ d c from step. appended_grows at.content (topic_batch es) d c
+              (at_index (λ t. StandsIn t.content.key d t.content.batches) v.topics j (some_topic v) below (topics_backed 1 v.topics (settled_topics v is whole) (on.image old) backed.topics d from)) step) since;
+          worlds = weaker on (Appends IsFile StandsIn at.content (topic_batch es)) (GrowsWorld v.names) old new
+              (λ d c from step. topic_worlds v is whole (on.image old) backed j below es each d c from step) since;
           elsewhere = images_append on (length v.names) (1 + j) at.content (topic_batch es) old new key (omega (arith, below, is.count)) since;
           others = only_one (length v.names) (1 + j) at.content.key (on.seen old) (on.seen new) key (omega (arith, below, is.count)) others;
           cause = counts_of (length v.names) at.content.key.part (on.faults old) (on.faults new) (on.part_faults old) (on.part_faults new) Y X

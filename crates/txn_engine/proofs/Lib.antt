@@ -33,6 +33,7 @@ pub mod Early
 pub mod Ended
 pub mod Causes
 pub mod OpeningFiles
+pub mod Growing
 pub mod OpeningTopic
 pub mod OpeningLog
 pub mod OpeningAll

@@ -19,7 +19,7 @@ use Rattle.txn_engine.specs.Opening.{KeepsLists, KeepsAllDamaged, KeepsWorld}
 
 -- ---- One file changes.
 
-same_or_not : (a b : FileId) → (a ≡ b) ⊎ (a ≡ b → ⊥)
+pub same_or_not : (a b : FileId) → (a ≡ b) ⊎ (a ≡ b → ⊥)
 same_or_not a b = parts (eqb_tells a.part b.part) (eqb_tells a.row b.row)
   where
     parts : ((eqb a.part b.part ≡ true) × (a.part ≡ b.part)) ⊎ ((eqb a.part b.part ≡ false) × (a.part ≡ b.part → ⊥)) → ((eqb a.row b.row ≡ true) × (a.row ≡ b.row)) ⊎ ((eqb a.row b.row ≡ false) × (a.row ≡ b.row → ⊥)) → (a ≡ b) ⊎ (a ≡ b → ⊥)

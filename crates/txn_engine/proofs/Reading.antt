@@ -32,6 +32,7 @@ use Rattle.txn_engine.specs.View.{EngineView, IsWhole, IsTied, IsBacked}
 use Rattle.txn_engine.proofs.Begun.{short_told, row_told, memory_told}
 use Rattle.txn_engine.proofs.Files.{only_none, images_same}
 use Rattle.txn_engine.proofs.Going.{counts_of}
+use Rattle.txn_engine.proofs.Growing.{files_same, worlds_same}
 use Rattle.txn_engine.proofs.Lists.{topic_at, at_index}
 use Rattle.txn_engine.proofs.TopicNames.{part_name}
 use Rattle.txn_engine.proofs.TopicRows.{Knows, knows, unknown_read, read_told, read_fault_told}
@@ -128,6 +129,8 @@ module _ {D : Type 0} (on : Ghosts D) (old new : D) (since : After on Same old n
         tied = λ was. was;
         backed = record { coord = same_backed v.coord.content backed.coord; topics = topics_same_backed v.topics backed.topics };
         images = weaker on Same (KeepsAboveIf (IsTied v) v.names) old new (λ d c here same was floor above. subst (StandsAbove v.names floor) (sym same) above) since;
+        grows = files_same on old new since;
+        worlds = worlds_same on v.names old new since;
         elsewhere = images_same on (length v.names) old new since;
         others = only_none (length v.names) (on.seen old) (on.seen new) still;
         cause = counts_of (length v.names) t.content.key.part (on.faults old) (on.faults new) (on.part_faults old) (on.part_faults new) Y X

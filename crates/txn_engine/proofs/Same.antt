@@ -34,6 +34,7 @@ use Rattle.txn_engine.specs.Told.{MayTell, RoseFor, EngineGoesOn}
 use Rattle.txn_engine.specs.View.{EngineView, IsWhole, IsTied, IsBacked, replaced}
 use Rattle.txn_engine.proofs.Coordinators.{reserving_is}
 use Rattle.txn_engine.proofs.Going.{counts_still}
+use Rattle.txn_engine.proofs.Growing.{files_first, worlds_first}
 use Rattle.txn_engine.proofs.Lists.{never_below}
 
 -- ---- Topics.
@@ -170,6 +171,8 @@ module _ {D : Type 0} (on : Ghosts D) where
     tied = same_tied v v' same;
     backed = same_backed v v' same (on.image disk) backed;
     images = started on disk (KeepsAboveIf (IsTied v) v.names) (λ c at tied floor above. above);
+    grows = files_first on disk;
+    worlds = worlds_first on v.names disk;
     elsewhere = started on disk (OnlyLedgers (length v.names)) (λ c at file apart. refl);
     others = λ file apart. refl;
     cause = counts_still (length v.names) (on.faults disk) (on.part_faults disk) X none;

@@ -2,15 +2,13 @@
 use Rattle.std.specs.Prelude.{ℕ, List}
 use Rattle.txn_base.specs.Disk.{Files}
 use Rattle.txn_model.specs.declared.world.World.{World}
-use Rattle.txn_model.specs.World.{Lawful, Extends}
-use Rattle.txn_model.specs.Sound.{StandsFor}
+use Rattle.txn_model.specs.World.{Extends}
+use Rattle.txn_model.specs.Sound.{Sound}
 
 -- With these names, the files are sound, and their world extends this one.
 pub record StandsAbove (names : List (List ℕ)) (floor : World) (files : Files) : Type 0 where
-  pub world : World
-  pub stands : StandsFor names files world
-  pub lawful : Lawful world
-  pub extends : Extends floor world
+  pub sound : Sound names files
+  pub extends : Extends floor sound.world
 
 -- With these names, whatever world the files before extend soundly, those after do.
 abbrev pub KeepsAbove : List (List ℕ) → Files → Files → Type 0

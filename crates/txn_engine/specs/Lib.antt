@@ -4,6 +4,7 @@ pub mod Above
 pub mod Kept
 pub mod Opening
 pub mod Files
+pub mod Growing
 pub mod Told
 pub mod Refusals
 pub mod Publishing

@@ -12,6 +12,7 @@ use Rattle.txn_model.specs.Answers.{AnswersAt}
 use Rattle.txn_wire.specs.Short.{IsShort, is_long}
 use Rattle.txn_engine.specs.Above.{KeepsAboveIf}
 use Rattle.txn_engine.specs.Files.{OnlyLedgers}
+use Rattle.txn_engine.specs.Growing.{Grows, GrowsWorld}
 use Rattle.txn_engine.specs.Table.{table_of}
 use Rattle.txn_engine.specs.View.{EngineView, IsWhole, IsTied, IsBacked}
 
@@ -59,14 +60,17 @@ FaultsWithin disk n old new is_fault =
     CountsWithin n (disk.faults old) (disk.faults new) (disk.part_faults old) (disk.part_faults new) is_fault
 
 -- From v to v', over these disks, all that was rebuilt stays so, or a fault is told; what is rebuilt stays tied to the
--- ledgers, and they to each image; whatever world each image at the call extends soundly, each image since does; and no
--- file but the ledgers of the engine changes, as it reads and in each image.
+-- ledgers, and they to each image; whatever world each image at the call extends soundly, each image since does; sound or
+-- not, the lists of files only grow, and where each image at the call stood for a world, each since stands for one that
+-- extends it; and no file but the ledgers of the engine changes, as it reads and in each image.
 pub record EngineGoesOn {D : Type 0} (disk : Ghosts D) (is_fault : Type 0) (v v' : EngineView) (old new : D) : Type 0 where
   pub names : v'.names ≡ v.names
   pub whole : IsWhole v' ⊎ is_fault
   pub tied : IsTied v → IsTied v'
   pub backed : IsBacked (disk.image new) v'
   pub images : After disk (KeepsAboveIf (IsTied v) v.names) old new
+  pub grows : After disk Grows old new
+  pub worlds : After disk (GrowsWorld v.names) old new
   pub elsewhere : After disk (OnlyLedgers (length v.names)) old new
   pub others : OnlyLedgers (length v.names) (disk.seen old) (disk.seen new)
   pub cause : FaultsWithin disk (length v.names) old new is_fault

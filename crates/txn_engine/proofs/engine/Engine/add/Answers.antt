@@ -15,8 +15,9 @@ use Rattle.txn_engine.proofs.AtView.{told_at, tell_at, goes_at, goes_for}
 use Rattle.txn_engine.proofs.Begun.{unknown_add_told, foreign_add_told, add_answer, add_fits, added_tellable, added_kept, no_fault_add}
 use Rattle.txn_engine.proofs.BegunGoes.{added_goes}
 use Rattle.txn_engine.proofs.Coordinators.{engine_with}
-use Rattle.txn_engine.proofs.Damage.{unknown_sound, added_sound}
+use Rattle.txn_engine.proofs.Damage.{unknown_sound, unknown_quiet, added_sound}
 use Rattle.txn_engine.proofs.Faults.{named_for, unknown_named, added_named}
+use Rattle.txn_engine.proofs.Going.{goes_quiet}
 use Rattle.txn_engine.proofs.Reading.{rose_at}
 use Rattle.txn_base.specs.declared.request.Request.TheVariants as request
 use Rattle.txn_base.specs.declared.reply.Refusal.TheVariants as no
@@ -106,3 +107,12 @@ returns-then-txn-ne0-clause-early g c = its_row c.args.self.now c.args.self.now 
 
 pub returns-clause-early : goal.returns-clause-early
 returns-clause-early g c = no_row c.args.self.now c.args.self.now refl (request.Add c.args.txn c.args.part.now) c.added_reply.result (early_add c.args.self.now.limits c.args.self.now c.args.txn c.args.part.now c.in-Some.number (ap (λ (v : EngineView). part_of v.names c.args.part.now) (sym c.self.view_is) ∙ ap (λ (ns : List (List ℕ)). part_of ns c.args.part.now) (sym c.deref.ensures.value) ∙ sym c.part_of.ensures.value ∙ c.in-Some.is) (grind (arith, nat_tests, c.if-txn-ne0.false)))
+
+pub returns-in_default-clause-goes : goal.returns-in_default-clause-goes
+returns-in_default-clause-goes g c = goes_quiet g.D.Disk c.unknown_part.result (unknown_quiet c.args.part.now c.unknown_part.result c.unknown_part.ensures) c.args.self.now c.args.disk.now c.requires.whole c.requires.backed
+
+pub returns-then-txn-ne0-clause-goes : goal.returns-then-txn-ne0-clause-goes
+returns-then-txn-ne0-clause-goes g c = goes_quiet g.D.Disk (reply.No (no.UnknownCoordinator c.args.txn.most)) refl c.args.self.now c.args.disk.now c.requires.whole c.requires.backed
+
+pub returns-in_default-new-clause-goes : goal.returns-in_default-new-clause-goes
+returns-in_default-new-clause-goes g c = goes_quiet g.D.Disk (reply.No no.NoMemory) refl c.args.self.now c.args.disk.now c.requires.whole c.requires.backed
