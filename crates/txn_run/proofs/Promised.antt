@@ -60,8 +60,8 @@ lapsed w w' grown = record {
 
 pub keeps_promises : (names : List (List ℕ)) (floor : World) (files : Files) → StandsAbove names floor files → KeepsPromises names floor files
 keeps_promises names floor files above = record {
-  world = above.world;
-  stands = above.stands;
-  promises = promised above.world above.lawful;
-  lasts = lapsed floor above.world above.extends;
+  world = above.sound.world;
+  stands = above.sound.stands;
+  promises = promised above.sound.world above.sound.lawful;
+  lasts = lapsed floor above.sound.world above.extends;
 }

@@ -1,10 +1,10 @@
 -- A run that takes its last bytes.
 use Rattle.std.proofs.Common.{◌≡◌, ℕ, ◌+◌, ◌≤◌, zero, suc, List, [], ◌++◌, length, take, Option, refl, sym, ap, ap₂, ◌∙◌, subst, append-nil, length-append, arith}
 use Rattle.std.specs.Io.KnownBytes.{Consumes, Keeps}
-use Rattle.std.proofs.KnownBytes.{Consumes-trans, Consumes-kept}
+use Rattle.std.proofs.KnownBytes.{Appends-nil, Consumes-nil, Consumes-trans, Consumes-kept}
 use Rattle.txn_base.specs.declared.limits.Limits.{Limits}
 use Rattle.txn_model.specs.Replies.{RunState}
-use Rattle.txn_run.specs.Going.{Going, HasTaken}
+use Rattle.txn_run.specs.Going.{IsLineSoFar, Going, HasTaken}
 use Rattle.txn_run.specs.declared.partial_line.PartialLine.{PartialLine}
 use Rattle.txn_run.specs.declared.status.RunStatus.TheVariants as status
 
@@ -14,6 +14,14 @@ none_of n chunk e = rw e refl
 -- so many bytes were taken, and the run goes so
 abbrev pub CameTo : Limits → RunState → Option (List ℕ) → Option (List ℕ) → ℕ → PartialLine → RunState → Option (List ℕ) → Option (List ℕ) → Type 0
 CameTo limits s old left taken p u mid left' = (fed : List ℕ) × Consumes left left' fed × (length fed ≡ taken) × Going limits s old fed p u mid
+
+pub reads_none : (limits : Limits) (s : RunState) (old left : Option (List ℕ)) (p : PartialLine) → IsLineSoFar limits.line p [] → HasTaken limits s old left 0 p s old left
+reads_none limits s old left p piece = record {
+  fed = [];
+  count = refl;
+  came = Consumes-nil left;
+  going = record { piece = piece; told = record { told = []; replies = (refl, refl); put = Appends-nil old } };
+}
 
 pub reads_kept : (limits : Limits) (s : RunState) (old left : Option (List ℕ)) (taken : ℕ) (p : PartialLine) (u : RunState) (mid left' left'' : Option (List ℕ)) → HasTaken limits s old left taken p u mid left' → Keeps left' left'' → CameTo limits s old left taken p u mid left''
 reads_kept limits s old left taken p u mid left' left'' r kept = (r.fed, Consumes-kept left left' left'' r.fed r.came kept, r.count, r.going)

@@ -6,9 +6,11 @@ use Rattle.txn_base.specs.Moves.{After}
 use Rattle.txn_base.proofs.Laws.{started, goes_on}
 use Rattle.txn_engine.specs.Above.{KeepsAboveIf}
 use Rattle.txn_engine.specs.Files.{OnlyLedgers}
+use Rattle.txn_engine.specs.Growing.{GrowsWorld}
 use Rattle.txn_engine.specs.Kept.{IsEngine}
 use Rattle.txn_engine.specs.Told.{FaultsWithin, EngineGoesOn}
 use Rattle.txn_engine.specs.View.{EngineView, IsTied, IsBacked}
+use Rattle.txn_engine.proofs.Laws.{files_first, files_then, worlds_first, worlds_then}
 use Rattle.txn_run.specs.Files.{LeavesOthers}
 use Rattle.txn_run.specs.Serving.{Serves, TellsTo}
 use Rattle.txn_run.specs.declared.lines.Stop.{Stop}
@@ -26,6 +28,8 @@ module _ {D : Type 0} (on : disk.Ghosts D) where
     tied = λ t. t;
     backed = backed;
     images = keeps_first on (IsTied v) v.names at;
+    grows = files_first on at;
+    worlds = worlds_first on v.names at;
     elsewhere = leaves_none on (length v.names) at;
     cause = counts_but _ _ _ (on.part_faults at) (on.part_faults at) _ _ (λ x. none x) (counts_first (length v.names) (on.faults at) (on.part_faults at));
   }
@@ -39,6 +43,8 @@ module _ {D : Type 0} (on : disk.Ghosts D) where
     tied = λ t. two.tied (one.tied t);
     backed = two.backed;
     images = keeps_then on _ _ u.names v.names old mid new one.names one.tied one.images two.images;
+    grows = files_then on old mid new one.grows two.grows;
+    worlds = worlds_then on u.names old mid new one.worlds (subst (λ (ns : List (List ℕ)). After on (GrowsWorld ns) mid new) one.names two.worlds);
     elsewhere = leaves_then on u.names v.names old mid new one.names one.elsewhere two.elsewhere;
     cause = counts_then u.names v.names _ _ _ (on.part_faults old) (on.part_faults mid) (on.part_faults new) _ _ one.names one.cause two.cause;
   }
@@ -52,6 +58,8 @@ module _ {D : Type 0} (on : disk.Ghosts D) where
     tied = one.tied;
     backed = one.backed;
     images = one.images;
+    grows = one.grows;
+    worlds = one.worlds;
     elsewhere = one.elsewhere;
     cause = counts_but _ _ _ (on.part_faults old) (on.part_faults new) _ _ means one.cause;
   }
@@ -65,6 +73,8 @@ module _ {D : Type 0} (on : disk.Ghosts D) where
     tied = goes.tied;
     backed = goes.backed;
     images = goes.images;
+    grows = goes.grows;
+    worlds = goes.worlds;
     elsewhere = record { now = goes.others; since = goes.elsewhere };
     cause = goes.cause;
   }

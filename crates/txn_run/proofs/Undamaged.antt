@@ -1,4 +1,4 @@
--- What is sound is not damaged.
+-- Files that are each lawful by itself are not damaged.
 use Rattle.std.proofs.Common.{◌≡◌, inl, inr, ℕ, zero, suc, ◌+◌, ◌<◌, ◌≤◌, ◌&&◌, not, Bool, true, true≢false, List, [], ◌∷◌, ◌++◌, All, length, map, take, drop, get_or, sym, ap, ap₂, ◌∙◌, subst, arith, append_assoc, take-append-drop}
 use Rattle.std.proofs.lemmas.Bool.{and_parts}
 use Rattle.std.proofs.lemmas.List.{take_more, take-map, get_or-map, length-map}
@@ -15,12 +15,14 @@ use Rattle.txn_base.specs.Names.{is_topic_name}
 use Rattle.txn_base.specs.Records.{IsCoordRecord}
 use Rattle.txn_base.proofs.Laws.{stands_one, stands_not_damaged}
 use Rattle.txn_records.proofs.Laws.{topic_again}
+use Rattle.txn_model.specs.declared.world.World.{World}
 use Rattle.txn_model.specs.Coord.{coord_allows, CoordLawful}
 use Rattle.txn_model.specs.Shape.{is_topic, topic_parts}
 use Rattle.txn_model.specs.Skeletons.{coord_skeleton, coord_skeletons, topic_skeleton}
-use Rattle.txn_model.specs.Sound.{ledger_file, RecordsOf, IsBareRecord}
+use Rattle.txn_model.specs.Sound.{ledger_file, RecordsOf, IsBareRecord, StandsFor}
 use Rattle.txn_model.specs.Topic.{part_allows, TopicLawful}
 use Rattle.txn_model.specs.Words.{all_follow, IsLawfulBy, has}
+use Rattle.txn_model.specs.World.{EachLawful}
 use Rattle.txn_model.proofs.Laws.Files.{coord_of, topic_of_record, entries_of_records}
 use Rattle.txn_model.proofs.Laws.Names.{numbered_has}
 use Rattle.txn_model.proofs.Laws.Lists.{all_follow-append}
@@ -28,7 +30,6 @@ use Rattle.txn_buffer.specs.Mending.{IsBad}
 use Rattle.txn_buffer.specs.Record.{IsInGrammar}
 use Rattle.txn_engine.specs.Opening.{IsLog, IsTopicLedger, IsDamagedLog, IsDamagedTopic, IsPart, IsDamagedPart, AreParts, IsFirstDamage}
 use Rattle.txn_engine.proofs.Laws.{not_sub}
-use Rattle.txn_run.specs.Before.{IsSoundBefore}
 
 -- ---- An entry of a lawful list is allowed.
 
@@ -80,7 +81,7 @@ part_not_damaged : (n p : ℕ) (bytes : List ℕ) (entry : ℕ) → IsPart n p b
 part_not_damaged n zero bytes entry u d = log_not_damaged n bytes entry u d
 part_not_damaged n (suc p) bytes entry u d = topic_not_damaged bytes entry u d
 
--- ---- Sound files.
+-- ---- Files that stand for a world.
 
 coord_grammar : (rs : List Record) (es : List CoordEntry) → RecordsOf IsCoordRecord rs es → All (λ r. IsCoordRecord r (coord_entry_of r)) rs
 coord_grammar [] es h = All-nil (λ r. IsCoordRecord r (coord_entry_of r))
@@ -92,26 +93,26 @@ topic_grammar [] es h = All-nil IsInGrammar
 topic_grammar (r ∷ rs) [] h = absurd h
 topic_grammar (r ∷ rs) (e ∷ es) h = All-cons IsInGrammar r rs (topic_again 1 r e h.0.of_entry) (topic_grammar rs es h.1)
 
-module _ (names : List (List ℕ)) (topics : All (λ name. is_topic_name name ≡ true) names) (files : Files) (sound : IsSoundBefore names files) where
+module _ (names : List (List ℕ)) (topics : All (λ name. is_topic_name name ≡ true) names) (files : Files) (w : World) (stands : StandsFor names files w) (each : EachLawful w) where
   log_here : IsLog (length names) (files (ledger_file 0))
   log_here =
-      let log = sound.stands.coord in
-      let entries : coord_entries log.batches ≡ sound.world.coord = entries_of_records IsCoordRecord coord_entry_of coord_of (records log.batches) sound.world.coord log.each in
-      let lawful : CoordLawful (length names) (coord_skeletons sound.world.coord) = subst (λ (ns : List (List ℕ)). CoordLawful (length ns) (coord_skeletons sound.world.coord)) sound.stands.named sound.lawful.coord in
-      (log.batches, log.stands, coord_grammar (records log.batches) sound.world.coord log.each, subst (λ (es : List CoordEntry). CoordLawful (length names) (coord_skeletons es)) (sym entries) lawful)
+      let log = stands.coord in
+      let entries : coord_entries log.batches ≡ w.coord = entries_of_records IsCoordRecord coord_entry_of coord_of (records log.batches) w.coord log.each in
+      let lawful : CoordLawful (length names) (coord_skeletons w.coord) = subst (λ (ns : List (List ℕ)). CoordLawful (length ns) (coord_skeletons w.coord)) stands.named each.coord in
+      (log.batches, log.stands, coord_grammar (records log.batches) w.coord log.each, subst (λ (es : List CoordEntry). CoordLawful (length names) (coord_skeletons es)) (sym entries) lawful)
 
   is_topic_part : (p : ℕ) → suc p ≤ length names → has (topic_parts names) (suc p) ≡ true
   is_topic_part p within = numbered_has is_topic 1 p (suc p) names (omega arith) (omega (arith, within)) (ap not (not_sub (get_or names p []) (topics p [] (omega (arith, within)))))
 
   topic_here : (p : ℕ) → suc p ≤ length names → IsTopicLedger (files (ledger_file (suc p)))
   topic_here p within =
-      let topic = sound.stands.topics (suc p) (is_topic_part p within) in
+      let topic = stands.topics (suc p) (is_topic_part p within) in
       let entries = entries_of_records IsBareRecord topic_entry_of topic_of_record (records topic.batches) _ topic.each in
-      (topic.batches, topic.stands, topic_grammar (records topic.batches) _ topic.each, subst TopicLawful (sym entries) (sound.lawful.topics (suc p)))
+      (topic.batches, topic.stands, topic_grammar (records topic.batches) _ topic.each, subst TopicLawful (sym entries) (each.topics (suc p)))
 
-  sound_parts : AreParts (length names) files
-  sound_parts zero within = log_here
-  sound_parts (suc p) within = topic_here p within
+  lawful_parts : AreParts (length names) files
+  lawful_parts zero within = log_here
+  lawful_parts (suc p) within = topic_here p within
 
-  pub sound_not_damaged : (file : FileId) (entry : ℕ) → IsFirstDamage (length names) files file entry → ⊥
-  sound_not_damaged file entry d = part_not_damaged (length names) d.part (files (ledger_file d.part)) entry (sound_parts d.part d.within) d.damaged
+  pub lawful_not_damaged : (file : FileId) (entry : ℕ) → IsFirstDamage (length names) files file entry → ⊥
+  lawful_not_damaged file entry d = part_not_damaged (length names) d.part (files (ledger_file d.part)) entry (lawful_parts d.part d.within) d.damaged

@@ -1,4 +1,3 @@
-pub mod Before
 pub mod Ending
 pub mod Files
 pub mod Going

@@ -14,13 +14,17 @@ use Rattle.txn_model.specs.declared.world.World.{World}
 use Rattle.txn_model.specs.Cut.{whole_lines, lines_of}
 use Rattle.txn_model.specs.Opening.{first_state}
 use Rattle.txn_model.specs.Replies.{RunState, count_faults}
-use Rattle.txn_model.specs.Sound.{StandsForKept}
+use Rattle.txn_model.specs.Sound.{StandsFor, StandsForKept}
 use Rattle.txn_model.specs.Table.{TableState}
-use Rattle.txn_run.specs.Before.{IsSoundBefore}
+use Rattle.txn_model.specs.World.{EachLawful}
 use Rattle.txn_run.specs.Words.{command_of}
 use Rattle.txn_run.specs.Told.{AllRebuilt, AnsweredLines, Broken, Stopped, EndsWithFault}
 use Rattle.txn_run.specs.declared.status.RunStatus.{RunStatus}
 use Rattle.txn_run.specs.declared.status.RunStatus.TheVariants as status
+
+-- With these names, the files stand for a world: each list is in its grammar.
+abbrev pub StandsForSome : List (List ℕ) → Files → Type 0
+StandsForSome names files = (w : World) × StandsFor names files w
 
 -- With these names, the files stand for what the table keeps of a stop, for some choice of the batches in flight.
 abbrev pub Leaves : List (List ℕ) → TableState → Files → Type 0
@@ -54,11 +58,13 @@ replies_in status.NoMemory limits s old taken s' new left never = []
 replies_in (status.Usage u) limits s old taken s' new left never = []
 replies_in (status.Damaged file entry) limits s old taken s' new left never = []
 
--- The statuses that a run over sound files may have before its first line: a fault of the disk, want of memory.
-abbrev pub IsEarly : RunStatus → Type 0
-IsEarly status.DiskFault = Unit {0}
-IsEarly status.NoMemory = Unit {0}
-IsEarly _ = ⊥
+-- The statuses that a run over files that stand for the world w may have before its first line: a fault of the disk, want of
+-- memory; and damage, but not where each list is lawful by itself.
+abbrev pub IsEarly : World → RunStatus → Type 0
+IsEarly w status.DiskFault = Unit {0}
+IsEarly w status.NoMemory = Unit {0}
+IsEarly w (status.Damaged file entry) = EachLawful w → ⊥
+IsEarly w _ = ⊥
 
 -- The statuses of a run that came to its first line.
 abbrev pub CameToLines : RunStatus → Type 0
@@ -105,9 +111,10 @@ IsUnstarted (status.Damaged file entry) = Unit {0}
 IsUnstarted status.NoMemory = Unit {0}
 IsUnstarted _ = ⊥
 
--- The disk failed or memory ran out before the first line: nothing was taken, nothing put, and no moment told.
-pub record Early (ended : RunStatus) (moments moments' left left' held held' : Option (List ℕ)) : Type 0 where
-  pub is_early : IsEarly ended
+-- Over files that stand for the world w, the run ended before its first line: nothing was taken, nothing put, and no moment
+-- told.
+pub record Early (ended : RunStatus) (w : World) (moments moments' left left' held held' : Option (List ℕ)) : Type 0 where
+  pub is_early : IsEarly w ended
   pub not_told : moments' ≡ moments
   pub not_taken : Keeps left left'
   pub not_put : Keeps held held'
@@ -119,7 +126,7 @@ first_run_state names w moments faults faults_of = record { table = first_state 
 -- A run over the files that stood for the world w and were opened, when the counts stood at f and fs, which is not before
 -- those of the call: its lines are answered by the table, and the clock is left where the last of them leaves it. The replies
 -- that tell of a fault are at most as many as the disk's count rose by since the call, unless it stands at its end. Where each
--- image at the call was sound, each image that is left is one that the last table keeps.
+-- image at the call stood for a world, lawful or not, each image that is left is one that the last table keeps.
 pub record Ran (ended : RunStatus) (limits : Limits) (names : List (List ℕ)) (w : World) (moments moments' : Option (List ℕ)) (image_before image : Files → Type 0) (before after : ℕ) (parts_before parts_after : ℕ → ℕ) (left left' held held' : Option (List ℕ)) : Type 0 where
   pub faults : ℕ
   pub faults_of : ℕ → ℕ
@@ -133,21 +140,22 @@ pub record Ran (ended : RunStatus) (limits : Limits) (names : List (List ℕ)) (
   pub came : Consumes left left' taken
   pub told : Ended ended limits (first_run_state names w moments faults faults_of) held taken last held' left'
   pub counted : min (before + count_faults (replies_in ended limits (first_run_state names w moments faults faults_of) held taken last held' left' told)) (2 ^ 64 - 1) ≤ after
-  pub leaves : ((c : Files) → image_before c → IsSoundBefore names c) → (c : Files) → image c → Leaves names last.table c
+  pub leaves : ((c : Files) → image_before c → StandsForSome names c) → (c : Files) → image c → Leaves names last.table c
 
--- Ended before its first line, or ran. Damage is no end of a run over sound files.
+-- Ended before its first line, or ran. Damage is no end of a run over files that are each lawful by itself.
 abbrev pub RunOn : {D I O K : Type 0} → disk.Ghosts D → source.Ghosts I → sink.Ghosts O → clock.Ghosts K
     → RunStatus → Limits → List (List ℕ) → World → (d d' : D) → (i i' : I) → (o o' : O) → (k k' : K) → Type 0
 RunOn D I O K ended limits names w d d' i i' o o' k k' =
-    Early ended (K.moments k) (K.moments k') (I.left i) (I.left i') (O.held o) (O.held o')
+    Early ended w (K.moments k) (K.moments k') (I.left i) (I.left i') (O.held o) (O.held o')
     ⊎ Ran ended limits names w (K.moments k) (K.moments k') (D.image d) (D.image d') (D.faults d) (D.faults d') (D.part_faults d) (D.part_faults d')
     (I.left i) (I.left i') (O.held o) (O.held o')
 
--- The same of a disk that tells, over files that are sound together with these names.
+-- The same of a disk that tells, over whatever world its files stand for with these names. Its lists needn't be lawful, be it
+-- together or each by itself.
 abbrev pub RunsOn : {D I O K : Type 0} → disk.Ghosts D → source.Ghosts I → sink.Ghosts O → clock.Ghosts K
     → RunStatus → Limits → List (List ℕ) → (d d' : D) → (i i' : I) → (o o' : O) → (k k' : K) → Type 0
 RunsOn D I O K ended limits names d d' i i' o o' k k' =
-    D.tells → (sound : IsSoundBefore names (D.seen d)) → RunOn D I O K ended limits names sound.world d d' i i' o o' k k'
+    D.tells → (w : World) → StandsFor names (D.seen d) w → RunOn D I O K ended limits names w d d' i i' o o' k k'
 
 -- Where the words are a command line, this holds of the names of its topics.
 abbrev pub Asks : List (List ℕ) → (List (List ℕ) → Type 0) → Type 0

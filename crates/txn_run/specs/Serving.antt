@@ -6,6 +6,7 @@ use Rattle.txn_base.specs.declared.sink.Sink as sink
 use Rattle.txn_base.specs.Moves.{After}
 use Rattle.txn_base.specs.Outside.{Rose}
 use Rattle.txn_engine.specs.Above.{KeepsAboveIf}
+use Rattle.txn_engine.specs.Growing.{Grows, GrowsWorld}
 use Rattle.txn_engine.specs.Kept.{IsEngine}
 use Rattle.txn_engine.specs.Told.{FaultsWithin}
 use Rattle.txn_engine.specs.View.{EngineView, IsWhole, IsTied, IsBacked}
@@ -22,7 +23,8 @@ pub record CanServe {D : Type 0} (d : disk.Ghosts D) (limits : Limits) (v : Engi
   pub backed : IsBacked (d.image at) v
 
 -- From v to v', over these disks: the parts stay, tied to the ledgers and backed by each image; whatever world each image at
--- first extends soundly, each image since does; no file but the ledgers changes; and the counts rose where this is a fault.
+-- first extends soundly, each image since does; sound or not, the lists of files only grow, and so does the world for which an
+-- image stood; no file but the ledgers changes; and the counts rose where this is a fault.
 pub record Serves {D : Type 0} (d : disk.Ghosts D) (is_fault : Type 0) (v v' : EngineView) (old new : D) : Type 0 where
   pub names : v'.names ≡ v.names
   pub limits : v'.limits ≡ v.limits
@@ -30,6 +32,8 @@ pub record Serves {D : Type 0} (d : disk.Ghosts D) (is_fault : Type 0) (v v' : E
   pub tied : IsTied v → IsTied v'
   pub backed : IsBacked (d.image new) v'
   pub images : After d (KeepsAboveIf (IsTied v) v.names) old new
+  pub grows : After d Grows old new
+  pub worlds : After d (GrowsWorld v.names) old new
   pub elsewhere : LeavesOthers d (length v.names) old new
   pub cause : FaultsWithin d (length v.names) old new is_fault
 

@@ -9,6 +9,7 @@ ghost use Rattle.txn_base.specs.Moves.{After, AtEachMoment};
 ghost use Rattle.txn_base.specs.declared.file_id.FileId.{FileId};
 ghost use Rattle.txn_base.specs.declared.usage.Usage.{Usage};
 ghost use Rattle.txn_engine.specs.Above.{StandsAbove, KeepsAbove};
+ghost use Rattle.txn_engine.specs.Growing.{Grows, GrowsWorld};
 ghost use Rattle.txn_engine.specs.Opening.{AreParts, IsPartFile, IsFirstDamage, KeepsLists, KeepsAllDamaged};
 ghost use Rattle.txn_engine.specs.Told.{FaultsWithin};
 ghost use Rattle.txn_engine.specs.View.{IsTied};
@@ -38,9 +39,10 @@ use txn_engine::Engine;
 /// part 1 of the disk, and the coordinator, whose ledger is row 2 of part 0. At most `input` bytes are taken, in pieces; a
 /// reply is put before the next line is answered. The clock tells one moment for each `new`, when its form was read.
 ///
-/// Where the disk tells what it holds, and that is sound: the texts of the replies of the table, as the status says, were
-/// put, and each image that is left is one that the last table keeps (`answers`). On every disk: whatever world each image
-/// at the call extends soundly, each image at any moment since does (`always`).
+/// Where the disk tells what it holds, and that stands for a world, lawful or not: the texts of the replies of the table, as
+/// the status says, were put, and each image that is left is one that the last table keeps (`answers`). On every disk:
+/// whatever world each image at the call extends soundly, each image at any moment since does (`always`). On every disk,
+/// whatever its files hold: the list for which a file stands only grows (`grows`).
 pub fn run<D: Disk, I: Source, O: Sink, K: Clock>(
     alloc: Global,
     words: &[Text],
@@ -53,6 +55,13 @@ pub fn run<D: Disk, I: Source, O: Sink, K: Clock>(
     requires limits { InRange limits.now }
     ensures answers { Asks words.now (λ names.
         RunsOn D.Disk I.Source O.Sink K.Clock result limits.now names disk.old disk.new source.old source.new sink.old sink.new clock.old clock.new) }
+
+    // Whatever the files hold, and with every status: a file that stood for a list stands in each image since for that list with
+    // more behind it, or none; and where an image at the call stood for a world, each since stands for one that extends it.
+    ensures grows { After D.Disk Grows disk.old disk.new }
+    ensures worlds { Asks words.now (λ names. After D.Disk (GrowsWorld names) disk.old disk.new) }
+
+    // Where the files are sound, they stay so.
     ensures images { Asks words.now (λ names. After D.Disk (KeepsAbove names) disk.old disk.new) }
     ensures always { Asks words.now (λ names. (floor : World) → AtEachMoment D.Disk (StandsAbove names floor) (StandsAbove names floor) disk.old disk.new) }
 
@@ -110,6 +119,8 @@ fn run_over<L: ledger::Ledger, D: Disk, I: Source, O: Sink, K: Clock>(
     requires topics { All (λ name. is_topic_name name ≡ true) names.items }
     requires limits { InRange limits.now }
     ensures answers { RunsOn D.Disk I.Source O.Sink K.Clock result limits.now names.items disk.old disk.new source.old source.new sink.old sink.new clock.old clock.new }
+    ensures grows { After D.Disk Grows disk.old disk.new }
+    ensures worlds { After D.Disk (GrowsWorld names.items) disk.old disk.new }
     ensures images { After D.Disk (KeepsAbove names.items) disk.old disk.new }
     ensures lists { IsQuiet result → After D.Disk KeepsLists disk.old disk.new }
     ensures uncut { IsQuiet result → D.tells → KeepsAllDamaged (D.seen disk.old) (D.seen disk.new) }

@@ -2,6 +2,7 @@ use Rattle.std.proofs.Common.{◌≡◌, ⊎_elim, inl, inr, ℕ, List, [], ◌�
 use Rattle.txn_base.specs.Moves.{After}
 use Rattle.txn_model.specs.declared.world.World.{World}
 use Rattle.txn_engine.specs.Above.{StandsAbove, KeepsAbove}
+use Rattle.txn_engine.specs.Growing.{GrowsWorld}
 use Rattle.txn_engine.specs.Opening.{AreParts, IsPartFile, IsFirstDamage}
 use Rattle.txn_base.proofs.Laws.{at_any_moment}
 use Rattle.txn_run.specs.Files.{LeavesOthers}
@@ -56,3 +57,11 @@ returns-in-Ok-clause-promises g c name command floor before image left =
 
 pub returns-in-Err-clause-promises : goal.returns-in-Err-clause-promises
 returns-in-Err-clause-promises g c name command floor before image left = keeps_promises (name ∷ []) floor image (before image (g.met.D.Disk.only_now c.args.disk.now image left))
+
+pub returns-in-Ok-clause-worlds : goal.returns-in-Ok-clause-worlds
+returns-in-Ok-clause-worlds g c name command =
+    let named = c.in-Ok.ensures.words in
+    subst (λ (ns : List (List ℕ)). After g.D.Disk (GrowsWorld ns) c.args.disk.now c.run_over.new.disk) (named_as (command_of c.args.words.now) c.in-Ok.names.items named.0 name named.1 named.2 command) c.run_over.ensures.worlds
+
+pub returns-in-Err-clause-always : goal.returns-in-Err-clause-always
+returns-in-Err-clause-always g c name command floor before image left = before image (g.met.D.Disk.only_now c.args.disk.now image left)

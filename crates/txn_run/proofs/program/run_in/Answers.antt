@@ -1,10 +1,10 @@
 use Rattle.std.proofs.Common.{◌≡◌, ◌≤◌, ◌+◌, [], take, length, arith, length-take, refl, ap, Ok, Err, inr, ◌∙◌}
-use Rattle.std.proofs.KnownBytes.{Consumes-kept}
+use Rattle.std.proofs.KnownBytes.{Consumes-nil, Consumes-kept}
 use Rattle.txn_model.specs.Cut.{lines_of}
 use Rattle.txn_run.proofs.RebuiltParts.{all_rebuilt}
 use Rattle.txn_run.proofs.Feeding.{reads_more, reads_broken, reads_stopped}
-use Rattle.txn_run.proofs.Serving.{serves_then, serves_as, tells_then}
-use Rattle.txn_run.proofs.Reading.{reads_kept, reads_end, came_none, came_more, none_taken, some_taken, some_more, none_so_far, never_none, write_no_too_much, write_no_ok, write_no_read_fault, disk_no_too_much, disk_no_ok, disk_no_read_fault}
+use Rattle.txn_run.proofs.Serving.{serves_none, serves_then, serves_as, tells_none, tells_then}
+use Rattle.txn_run.proofs.Reading.{reads_none, reads_kept, reads_end, came_none, came_more, none_taken, some_taken, some_more, none_so_far, never_none, write_no_too_much, write_no_ok, write_no_read_fault, disk_no_too_much, disk_no_ok, disk_no_read_fault}
 use Rattle.txn_run.proofs.Telling.{ends_after}
 use Rattle.txn_run.proofs.program.run_in.Goals as goal
 
@@ -32,6 +32,22 @@ pub returns-in-Err-Disk-clause-answers : goal.returns-in-Err-Disk-clause-answers
 returns-in-Err-Disk-clause-answers g c told tied =
     let e = reads_end c.args.limits.now _ _ _ c.loop-taken.taken c.loop-taken.pending _ _ _ _ c.take_into.new.chunk c.in-Ok.count c.if-count-eq0.true (c.loop-taken.invariant.so told tied) c.in-Ok.ensures.bytes.0 in
     (e.0, e.1, (omega (arith, e.2, c.loop-taken-test.true), lines_of e.0, inr (c.in-Ok.ensures.bytes.1 c.if-count-eq0.true (omega (arith, c.min-most.ensures, c.loop-taken-test.true)), omega (arith, e.2, c.loop-taken-test.true), refl), c.in-Err-Disk.ensures.disk (ap Err c.in-Err-Disk.field-0-is) told (c.loop-taken.invariant.serves.tied tied) _ _ e.0 e.3))
+
+pub loop-taken-init : goal.loop-taken-init
+loop-taken-init g c = record {
+  within = omega arith;
+  chunk = c.requires.chunk;
+  line = c.requires.line;
+  out = c.requires.out;
+  reads = omega arith;
+  tells = tells_none g.O.Sink (Ok tt) c.args.sink.now (λ is. cc) (λ is. cc);
+  fresh = λ e. c.requires.pending;
+  clock = λ e. refl;
+  whole = c.requires.ready.whole;
+  serves = serves_none g.D.Disk _ _ c.requires.ready.engine c.requires.ready.backed (λ none. none);
+  came = ([], Consumes-nil _, refl);
+  so = λ told tied. reads_none c.args.limits.now _ _ _ _ c.requires.pending;
+}
 
 pub loop-taken-preserved : goal.loop-taken-preserved
 loop-taken-preserved g c =

@@ -3,10 +3,11 @@ use Rattle.std.proofs.KnownBytes.{Keeps-refl}
 use Rattle.txn_model.specs.Replies.{RunState}
 use Rattle.txn_run.specs.Going.{run_state}
 use Rattle.txn_run.specs.Run.{Ended, IsEarly, IsAnswered, first_run_state}
+use Rattle.txn_engine.proofs.Laws.{files_then, lists_files, lists_worlds}
 use Rattle.txn_run.proofs.Counted.{counted_since}
 use Rattle.txn_run.proofs.Keeping.{leaves_then, counts_then, counts_but}
-use Rattle.txn_run.proofs.Running.{opening_above, running_above, image_above, first_is, leaves_here, early_here, damage_of, fault_of, not_answered}
-use Rattle.txn_run.proofs.Undamaged.{sound_not_damaged}
+use Rattle.txn_run.proofs.Running.{opening_above, running_above, running_worlds, image_stands, first_is, leaves_here, early_here, damage_of, fault_of, not_answered}
+use Rattle.txn_run.proofs.Undamaged.{lawful_not_damaged}
 use Rattle.txn_run.proofs.program.run_over.Goals as goal
 
 pub returns-in-Ok-open_disk-clause-images : goal.returns-in-Ok-open_disk-clause-images
@@ -15,14 +16,14 @@ returns-in-Ok-open_disk-clause-images g c =
     c.in-Ok-open_disk.engine.names c.in-Ok-open_disk.ensures.opened.0 c.in-Ok-open_disk.ensures.images c.run_in.ensures.serves.images
 
 pub returns-in-Ok-open_disk-clause-answers : goal.returns-in-Ok-open_disk-clause-answers
-returns-in-Ok-open_disk-clause-answers g c told sound =
+returns-in-Ok-open_disk-clause-answers g c told w stands =
     let opened = c.in-Ok-open_disk.ensures.opened in
     let ran = c.run_in.ensures.answers told (c.in-Ok-open_disk.ensures.tied told) in
-    let first : RunState = first_run_state c.args.names.items sound.world (g.K.Clock.moments c.args.clock.now) (g.D.Disk.faults c.open_disk.new.disk) (g.D.Disk.part_faults c.open_disk.new.disk) in
+    let first : RunState = first_run_state c.args.names.items w (g.K.Clock.moments c.args.clock.now) (g.D.Disk.faults c.open_disk.new.disk) (g.D.Disk.part_faults c.open_disk.new.disk) in
     let last : RunState = run_state c.run_in.new.engine (g.K.Clock.moments c.run_in.new.clock) (g.D.Disk.faults c.run_in.new.disk) (g.D.Disk.part_faults c.run_in.new.disk) in
     let ended : Ended c.run_in.result c.args.limits.now first (g.O.Sink.held c.args.sink.now) ran.0 last (g.O.Sink.held c.run_in.new.sink) (g.I.Source.left c.run_in.new.source) =
     subst (λ (s : RunState). Ended c.run_in.result c.args.limits.now s (g.O.Sink.held c.args.sink.now) ran.0 last (g.O.Sink.held c.run_in.new.sink) (g.I.Source.left c.run_in.new.source))
-    (first_is c.args.names.items c.in-Ok-open_disk.engine sound.world sound.stands.named (c.in-Ok-open_disk.ensures.table told sound.world sound.stands) (g.K.Clock.moments c.args.clock.now) (g.D.Disk.faults c.open_disk.new.disk) (g.D.Disk.part_faults c.open_disk.new.disk))
+    (first_is c.args.names.items c.in-Ok-open_disk.engine w stands.named (c.in-Ok-open_disk.ensures.table told w stands) (g.K.Clock.moments c.args.clock.now) (g.D.Disk.faults c.open_disk.new.disk) (g.D.Disk.part_faults c.open_disk.new.disk))
     ran.2 in
     inr (record {
       faults = g.D.Disk.faults c.open_disk.new.disk;
@@ -38,10 +39,10 @@ returns-in-Ok-open_disk-clause-answers g c told sound =
       told = ended;
       counted = counted_since (g.D.Disk.faults c.args.disk.now) c.run_in.result c.args.limits.now first (g.O.Sink.held c.args.sink.now) ran.0 last (g.O.Sink.held c.run_in.new.sink) (g.I.Source.left c.run_in.new.source) ended c.in-Ok-open_disk.ensures.cause.later;
       leaves = λ all image at.
-          let since = running_above g.D.Disk c.args.names.items _ g.D.Disk.tells g.met.D.Disk.image_is_told c.in-Ok-open_disk.ensures.tied c.args.disk.now c.open_disk.new.disk c.run_in.new.disk
-          c.in-Ok-open_disk.engine.names opened.0 c.in-Ok-open_disk.ensures.images c.run_in.ensures.serves.images in
-          let above = image_above g.D.Disk c.args.names.items c.args.disk.now c.run_in.new.disk since all image at in
-          leaves_here c.args.names.items c.run_in.new.engine c.run_in.ensures.serves.engine (c.run_in.ensures.serves.names ∙ opened.0) (g.D.Disk.image c.run_in.new.disk) c.run_in.ensures.serves.backed image at above.0 above.1;
+          let since = running_worlds g.D.Disk c.args.names.items c.args.disk.now c.open_disk.new.disk c.run_in.new.disk
+          c.in-Ok-open_disk.engine.names opened.0 c.in-Ok-open_disk.ensures.images c.run_in.ensures.serves.worlds in
+          let stood = image_stands g.D.Disk c.args.names.items c.args.disk.now c.run_in.new.disk since all image at in
+          leaves_here c.args.names.items c.run_in.new.engine c.run_in.ensures.serves.engine (c.run_in.ensures.serves.names ∙ opened.0) (g.D.Disk.image c.run_in.new.disk) c.run_in.ensures.serves.backed image at stood;
     })
 
 pub returns-in-Ok-open_disk-clause-undamaged : goal.returns-in-Ok-open_disk-clause-undamaged
@@ -69,10 +70,10 @@ pub returns-in-Err-clause-undamaged : goal.returns-in-Err-clause-undamaged
 returns-in-Err-clause-undamaged g c answered told = absurd (not_answered c.in-Err.error (subst IsAnswered c.unopened.ensures answered))
 
 pub returns-in-Err-clause-answers : goal.returns-in-Err-clause-answers
-returns-in-Err-clause-answers g c told sound =
+returns-in-Err-clause-answers g c told w stands =
     inl (record {
-      is_early = subst IsEarly (sym c.unopened.ensures)
-          (early_here c.in-Err.error (λ file entry is. sound_not_damaged c.args.names.items c.requires.topics (g.D.Disk.seen c.args.disk.now) sound file entry ((c.in-Err.ensures.damaged file entry (ap Err is)).1 told)));
+      is_early = subst (IsEarly w) (sym c.unopened.ensures)
+          (early_here w c.in-Err.error (λ file entry is each. lawful_not_damaged c.args.names.items c.requires.topics (g.D.Disk.seen c.args.disk.now) w stands each file entry ((c.in-Err.ensures.damaged file entry (ap Err is)).1 told)));
       not_told = refl;
       not_taken = Keeps-refl _;
       not_put = Keeps-refl _;
@@ -84,3 +85,18 @@ returns-in-Err-clause-stopped g c is = inl (refl, refl, refl, c.in-Err.ensures.l
 pub returns-in-Err-clause-disk : goal.returns-in-Err-clause-disk
 returns-in-Err-clause-disk g c =
     counts_but _ _ _ (g.D.Disk.part_faults c.args.disk.now) (g.D.Disk.part_faults c.open_disk.new.disk) _ _ (λ is. ap Err (fault_of c.in-Err.error (sym c.unopened.ensures ∙ is))) c.in-Err.ensures.cause
+
+pub returns-in-Ok-open_disk-clause-grows : goal.returns-in-Ok-open_disk-clause-grows
+returns-in-Ok-open_disk-clause-grows g c =
+    files_then g.D.Disk c.args.disk.now c.open_disk.new.disk c.run_in.new.disk (lists_files g.D.Disk c.args.disk.now c.open_disk.new.disk c.in-Ok-open_disk.ensures.lists) c.run_in.ensures.serves.grows
+
+pub returns-in-Ok-open_disk-clause-worlds : goal.returns-in-Ok-open_disk-clause-worlds
+returns-in-Ok-open_disk-clause-worlds g c =
+    running_worlds g.D.Disk c.args.names.items c.args.disk.now c.open_disk.new.disk c.run_in.new.disk
+    c.in-Ok-open_disk.engine.names c.in-Ok-open_disk.ensures.opened.0 c.in-Ok-open_disk.ensures.images c.run_in.ensures.serves.worlds
+
+pub returns-in-Err-clause-grows : goal.returns-in-Err-clause-grows
+returns-in-Err-clause-grows g c = lists_files g.D.Disk c.args.disk.now c.open_disk.new.disk c.in-Err.ensures.lists
+
+pub returns-in-Err-clause-worlds : goal.returns-in-Err-clause-worlds
+returns-in-Err-clause-worlds g c = lists_worlds g.D.Disk c.args.names.items c.args.disk.now c.open_disk.new.disk c.in-Err.ensures.images
