@@ -15,7 +15,7 @@ pub enum CoordEntry {
 }
 
 /// An entry of a topic's ledger: a plain message, one of a transaction, or a marker that ends a transaction here.
-#[derive(Debug, Drop)]
+#[derive(Drop)]
 pub enum TopicEntry {
     Plain { body: Bytes },
     Opened { txn: TxnId, body: Bytes },
@@ -25,7 +25,7 @@ pub enum TopicEntry {
 
 /// An entry of a subscription's ledger: acknowledgements, holds of a transaction, or a marker that ends it here.
 /// An individual one lists places, a cumulative one covers all up to its place.
-#[derive(Debug, Drop)]
+#[derive(Drop)]
 pub enum AckEntry {
     Plain { places: Places },
     PlainUpTo { place: u64 },

@@ -2,7 +2,7 @@
 use crate::file_id::FileId;
 
 /// The rule that a file breaks: of a list by itself, up to `Snapshot`, or of the lists together.
-#[derive(Clone, Copy, Debug, PartialEq, Eq)]
+#[derive(Clone, Copy, PartialEq, Eq)]
 pub enum Law {
     Frame,
     Entry,
@@ -17,7 +17,7 @@ pub enum Law {
 }
 
 /// The first rule that is broken, and where: a file, and the number of an entry in its part's list.
-#[derive(Clone, Copy, Debug, PartialEq, Eq)]
+#[derive(Clone, Copy, PartialEq, Eq)]
 pub struct Finding {
     pub law: Law,
     pub file: FileId,

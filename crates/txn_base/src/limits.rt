@@ -1,7 +1,7 @@
 //! How much there may be.
 
 /// How much there may be. A caller may lower a field; each lies between 1 and its default.
-#[derive(Clone, Copy, Debug, PartialEq, Eq)]
+#[derive(Clone, Copy, PartialEq, Eq)]
 pub struct Limits {
     /// Bytes of a line without its newline.
     pub line: u64,

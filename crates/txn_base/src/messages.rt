@@ -6,14 +6,14 @@ use std::alloc::{AllocError, Global};
 use std::marker::Model;
 
 /// A message, and its place: the number of its entry in the topic's ledger.
-#[derive(Clone, Debug, Drop, PartialEq, Eq)]
+#[derive(Clone, Drop, PartialEq, Eq)]
 pub struct Message {
     pub place: u64,
     pub body: Text,
 }
 
 /// Messages in order.
-#[derive(Debug, Drop)]
+#[derive(Drop)]
 pub struct Messages {
     items: Vec<Message>,
 }

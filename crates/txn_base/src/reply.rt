@@ -4,7 +4,7 @@ use crate::text::Text;
 use crate::txn::{Decision, Status, TxnId};
 
 /// The answer to a line.
-#[derive(Debug, Drop)]
+#[derive(Drop)]
 pub enum Reply {
     New {
         txn: TxnId,
@@ -41,21 +41,21 @@ pub enum Reply {
 }
 
 /// The status after an end, and where its drive stopped if it did.
-#[derive(Debug, Drop)]
+#[derive(Drop)]
 pub struct Outcome {
     pub status: Status,
     pub stuck: Option<Stuck>,
 }
 
 /// The part at which a drive stopped, and why.
-#[derive(Debug, Drop)]
+#[derive(Drop)]
 pub struct Stuck {
     pub part: Text,
     pub why: Why,
 }
 
 /// Why a drive stopped.
-#[derive(Clone, Copy, Debug, PartialEq, Eq)]
+#[derive(Clone, Copy, PartialEq, Eq)]
 pub enum Why {
     Fault,
     Recovering,
@@ -63,7 +63,7 @@ pub enum Why {
 }
 
 /// The transaction that a tick drove, and how far.
-#[derive(Debug, Drop)]
+#[derive(Drop)]
 pub struct Driven {
     pub txn: TxnId,
     pub outcome: Outcome,
@@ -78,7 +78,7 @@ pub enum What {
 }
 
 /// Why a line was refused.
-#[derive(Debug, Drop)]
+#[derive(Drop)]
 pub enum Refusal {
     TooLong,
     BadLine,

@@ -5,7 +5,7 @@ use crate::txn::{Decision, TxnId};
 use std::marker::Model;
 
 /// The transactions that ended in a topic, in order of the id, each with its decision.
-#[derive(Debug, Drop)]
+#[derive(Drop)]
 pub struct Ends {
     items: Vec<(TxnId, Decision)>,
 }
@@ -36,7 +36,7 @@ impl Ends {
 
 /// What a topic's first entries come to: how many they are, the maximum read position after them, and the
 /// transactions with a marker among them.
-#[derive(Debug, Drop)]
+#[derive(Drop)]
 pub struct Snapshot {
     pub entries: u64,
     pub limit: u64,

@@ -81,7 +81,7 @@ impl Eq for Text {
 }
 
 /// Room for a text of so many bytes, taken before it is known which text that will be. Contracts see the number.
-#[derive(Debug, Drop)]
+#[derive(Drop)]
 pub struct TextRoom {
     text: String,
 }

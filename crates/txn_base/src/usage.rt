@@ -3,7 +3,7 @@ use crate::text::Text;
 
 /// Why words are no command line: no command and its words, a name without the form of one, a subscription whose
 /// topic isn't there, or more names than the catalog may have.
-#[derive(Debug, Drop)]
+#[derive(Drop)]
 pub enum Usage {
     Words,
     BadName { word: Text },

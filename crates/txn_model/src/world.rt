@@ -7,7 +7,7 @@ use std::marker::Model;
 use txn_base::{AckEntry, CoordEntry, Texts, TopicEntry};
 
 /// The coordinator's log.
-#[derive(Debug, Drop)]
+#[derive(Drop)]
 pub struct CoordList {
     items: Vec<CoordEntry>,
 }
@@ -43,7 +43,7 @@ impl CoordList {
 }
 
 /// A topic's ledger, entry by entry. Contracts see its bodies without the room behind them.
-#[derive(Debug, Drop)]
+#[derive(Drop)]
 pub struct TopicEntries {
     items: Vec<TopicEntry>,
 }
@@ -80,7 +80,7 @@ impl TopicEntries {
 }
 
 /// A subscription's ledger, entry by entry.
-#[derive(Debug, Drop)]
+#[derive(Drop)]
 pub struct AckEntries {
     items: Vec<AckEntry>,
 }
@@ -116,21 +116,21 @@ impl AckEntries {
 }
 
 /// The ledger of the topic of this number.
-#[derive(Debug, Drop)]
+#[derive(Drop)]
 pub struct TopicList {
     pub part: u32,
     pub entries: TopicEntries,
 }
 
 /// The ledger of the subscription of this number.
-#[derive(Debug, Drop)]
+#[derive(Drop)]
 pub struct AckList {
     pub part: u32,
     pub entries: AckEntries,
 }
 
 /// The topics' ledgers, which contracts see as pairs of a part and its list.
-#[derive(Debug, Drop)]
+#[derive(Drop)]
 pub struct TopicLists {
     items: Vec<TopicList>,
 }
@@ -167,7 +167,7 @@ impl TopicLists {
 }
 
 /// The subscriptions' ledgers, which contracts see as pairs of a part and its list.
-#[derive(Debug, Drop)]
+#[derive(Drop)]
 pub struct AckLists {
     items: Vec<AckList>,
 }
@@ -204,7 +204,7 @@ impl AckLists {
 }
 
 /// All that is durable: the catalog's names, the coordinator's log, and a ledger for each topic and subscription.
-#[derive(Debug, Drop)]
+#[derive(Drop)]
 pub struct World {
     pub names: Texts,
     pub coord: CoordList,

@@ -7,7 +7,7 @@ use super::files::{Short, log_file, topic_file};
 use std::alloc::{AllocError, Global};
 use std::marker::Brand;
 use std::sync::ledger::{self, Blank};
-use txn_base::{FileId, Limits, Reply, Request, Steps, Text, TxnId};
+use txn_base::{FileId, Limits, Refusal, Reply, Request, Status, Steps, Text, TxnId};
 use txn_engine::{Engine, EngineError};
 use txn_memdisk::MemDisk;
 
@@ -46,11 +46,24 @@ fn opened<L: ledger::Ledger>(
 }
 
 fn reply_shown(alloc: Global, reply: &Reply) -> Result<String, AllocError> {
-    format!(in alloc; "{reply:?}")
+    let text = match reply {
+        Reply::Status {
+            status: Status::Open,
+        } => "open",
+        Reply::No(Refusal::NotFound) => "not found",
+        _ => "another reply",
+    };
+    format!(in alloc; "{text}")
 }
 
 fn error_shown(alloc: Global, error: &EngineError) -> Result<String, AllocError> {
-    format!(in alloc; "{error:?}")
+    match error {
+        EngineError::Damaged { file, entry } => {
+            format!(in alloc; "part {} row {} entry {entry}", file.part, file.row)
+        }
+        EngineError::Fault => format!(in alloc; "fault"),
+        EngineError::NoMemory => format!(in alloc; "no memory"),
+    }
 }
 
 /// Puts the file of the coordinator, or of a topic.
@@ -75,37 +88,32 @@ fn told(alloc: Global, log: &[Short], a: &[Short], b: &[Short]) -> Result<String
 // A log, the ledgers of both topics, and what opening them tells. In a log 1 is a new transaction, 2 adds a part to one; in
 // a topic 1 is a message, 7 isn't in the grammar.
 const DISKS: [(&[Short], &[Short], &[Short], &str); 6] = [
-    (&[], &[], &[], "No(NotFound)"),
+    (&[], &[], &[], "not found"),
     (
         &[(1, 0, 0), (2, 0, 2)],
         &[(1, 0, b'x')],
         &[(2, 0, b'y')],
-        "Status { status: Open }",
+        "open",
     ),
     (
         &[(1, 0, 0), (2, 0, 3), (1, 0, 0)],
         &[(7, 0, 0)],
         &[],
-        "Damaged { file: FileId { part: 0, row: 2 }, entry: 1 }",
+        "part 0 row 2 entry 1",
     ),
     (
         &[(1, 0, 0)],
         &[(7, 0, 0)],
         &[(7, 0, 0)],
-        "Damaged { file: FileId { part: 1, row: 2 }, entry: 0 }",
+        "part 1 row 2 entry 0",
     ),
     (
         &[],
         &[(1, 0, b'x')],
         &[(1, 0, b'y'), (7, 0, 0)],
-        "Damaged { file: FileId { part: 2, row: 2 }, entry: 1 }",
+        "part 2 row 2 entry 1",
     ),
-    (
-        &[],
-        &[],
-        &[(3, 0, 0), (2, 0, b'y')],
-        "Damaged { file: FileId { part: 2, row: 2 }, entry: 1 }",
-    ),
+    (&[], &[], &[(3, 0, 0), (2, 0, b'y')], "part 2 row 2 entry 1"),
 ];
 
 #[test]
