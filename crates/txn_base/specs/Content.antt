@@ -49,16 +49,20 @@ KeptOrNot stands batches settled = stands batches
 KeptOrNot stands batches looked_at = stands batches
 KeptOrNot stands batches (in_flight batch) = stands batches ⊎ stands (batches ++ batch ∷ [])
 
--- Each image of a disk is as the log tells.
-pub record Backed (stands : FileId → Files → List Batch → Type 0) (image : Files → Type 0) (content : LedgerContent) : Type 0 where
+-- Each image of a disk is as the log tells; where nothing is in doubt, its files are the log's batches and no more.
+pub record Backed (stands exactly : FileId → Files → List Batch → Type 0) (image : Files → Type 0) (content : LedgerContent) : Type 0 where
   pub each : (c : Files) → image c → KeptOrNot (stands content.key c) content.batches content.standing
+  pub exact : content.standing ≡ settled → (c : Files) → image c → exactly content.key c content.batches
 
 -- The files of the log stand for its batches, with this one behind them or without, and no other file changes.
 pub record Appends (mine : FileId → FileId → Type 0) (stands : FileId → Files → List Batch → Type 0) (content : LedgerContent) (batch : Batch) (before after : Files) : Type 0 where
   pub here : stands content.key after content.batches ⊎ stands content.key after (content.batches ++ batch ∷ [])
   pub others : (other : FileId) → (mine content.key other → ⊥) → after other ≡ before other
 
--- The same with the batch in flight, once more in doubt.
+-- The same with the batch in flight, once more in doubt; but what the files stood for before, they stand for after, and where
+-- nothing was in doubt, nothing changes.
 pub record Settles (mine : FileId → FileId → Type 0) (stands : FileId → Files → List Batch → Type 0) (content : LedgerContent) (before after : Files) : Type 0 where
   pub here : KeptOrNot (stands content.key after) content.batches content.standing
+  pub still : (batches : List Batch) → stands content.key before batches → stands content.key after batches
+  pub quiet : content.standing ≡ settled → after ≡ before
   pub others : (other : FileId) → (mine content.key other → ⊥) → after other ≡ before other

@@ -2,5 +2,3 @@
 
 -- The records of a batch of messages, and of a marker, are those of its entries.
 pub use Rattle.txn_buffer.proofs.BatchRecords.{batch_records, marker_records}
--- Files that are backed begin with the batches.
-pub use Rattle.txn_buffer.proofs.OnlyReading.{begins_with}

@@ -1,27 +1,10 @@
 -- Calls that only read a disk, in a row.
-use Rattle.std.proofs.Common.{⊎_elim, ℕ, List, [], ◌∷◌, ◌++◌, refl, sym, ◌∙◌, subst, arith}
-use Rattle.std.proofs.lemmas.List.{append-nil}
+use Rattle.std.proofs.Common.{ℕ, refl, ◌∙◌, arith}
 use Rattle.txn_base.specs.declared.disk.Disk.{Ghosts}
 use Rattle.txn_base.specs.Moves.{After}
-use Rattle.txn_base.specs.declared.file_id.FileId.{FileId}
-use Rattle.txn_base.specs.Content.{LedgerContent, Standing, settled, in_flight, looked_at, KeptOrNot, Backed}
-use Rattle.txn_base.specs.Disk.{Files, Same, CountsFaults}
-use Rattle.txn_base.specs.Frames.{Batch}
+use Rattle.txn_base.specs.Disk.{Same, CountsFaults}
 use Rattle.txn_base.proofs.Laws.{started, goes_on}
 use Rattle.txn_buffer.specs.Reads.{OnlyReads}
-
--- Files that are backed begin with the batches.
-pub begins_with : (stands begins : FileId → Files → List Batch → Type 0) → ((key : FileId) (c : Files) (batches more : List Batch) → stands key c (batches ++ more) → begins key c batches)
-    → (image : Files → Type 0) (content : LedgerContent) (c : Files) → Backed stands image content → image c → begins content.key c content.batches
-begins_with stands begins law image content c backed at = pick content.standing (backed.each c at)
-  where
-    alone : stands content.key c content.batches → begins content.key c content.batches
-    alone h = law content.key c content.batches [] (subst (stands content.key c) (sym (append-nil content.batches)) h)
-
-    pick : (standing : Standing) → KeptOrNot (stands content.key c) content.batches standing → begins content.key c content.batches
-    pick settled h = alone h
-    pick looked_at h = alone h
-    pick (in_flight batch) h = ⊎_elim alone (law content.key c content.batches (batch ∷ [])) h
 
 pub counts_none : (part count : ℕ) (parts : ℕ → ℕ) → CountsFaults part count count parts parts ⊥
 counts_none part count parts = record {
@@ -70,9 +53,4 @@ module _ {D : Type 0} (on : Ghosts D) (part : ℕ) where
     seen_same = one.seen_same;
     images = one.images;
     cause = counts_as part (on.faults old) (on.faults new) (on.part_faults old) (on.part_faults new) P Q from one.cause;
-  }
-
-  pub still_backed : (stands : FileId → Files → List Batch → Type 0) (content : LedgerContent) (old new : D) → After on Same old new → Backed stands (on.image old) content → Backed stands (on.image new) content
-  still_backed stands content old new since backed = record {
-    each = λ c at. let d = since.at_end c at in subst (λ e. KeptOrNot (stands content.key e) content.batches content.standing) (sym d.2) (backed.each d.0 d.1);
   }

@@ -1,20 +1,10 @@
 -- Calls that read, one after the other.
-use Rattle.std.proofs.Common.{◌≡◌, ℕ, ◌≤◌, arith, List, [], ◌++◌, sym, ◌∙◌, subst}
-use Rattle.std.proofs.lemmas.List.{append-nil}
+use Rattle.std.proofs.Common.{ℕ, ◌≤◌, arith, ◌∙◌}
 use Rattle.txn_base.specs.declared.disk.Disk.{Ghosts}
 use Rattle.txn_base.specs.Moves.{After}
-use Rattle.txn_base.specs.declared.file_id.FileId.{FileId}
-use Rattle.txn_base.specs.Content.{LedgerContent, settled, Backed, KeptOrNot}
-use Rattle.txn_base.specs.Disk.{Files, Same, CountsFaults}
-use Rattle.txn_base.specs.Frames.{Batch}
+use Rattle.txn_base.specs.Disk.{Same, CountsFaults}
 use Rattle.txn_base.specs.Outside.{Rose}
-use Rattle.txn_base.proofs.Laws.{settled_stands, started, goes_on}
-
--- what a settled log may be asked for
-pub begins_settled : (stands begins : FileId → Files → List Batch → Type 0) → ((key : FileId) (c : Files) (batches more : List Batch) → stands key c (batches ++ more) → begins key c batches)
-    → (image : Files → Type 0) (content : LedgerContent) → content.standing ≡ settled → Backed stands image content → (c : Files) → image c → begins content.key c content.batches
-begins_settled stands begins stands_begins image content is backed c at =
-    stands_begins content.key c content.batches [] (subst (λ (l : List Batch). stands content.key c l) (sym (append-nil content.batches)) (settled_stands stands image content is backed c at))
+use Rattle.txn_base.proofs.Laws.{started, goes_on}
 
 module _ {D : Type 0} (on : Ghosts D) where
   pub same_started : (disk : D) → After on Same disk disk
@@ -22,10 +12,6 @@ module _ {D : Type 0} (on : Ghosts D) where
 
   pub same_then : (old mid new : D) → After on Same old mid → After on Same mid new → After on Same old new
   same_then old mid new one two = goes_on on Same Same Same old mid new one two (λ d c at is. is) (λ d e c at first mid_at second. second ∙ first)
-
-  pub backed_same : (stands : FileId → Files → List Batch → Type 0) (content : LedgerContent) (old new : D) → After on Same old new → Backed stands (on.image old) content → Backed stands (on.image new) content
-  backed_same stands content old new since backed =
-      record { each = λ c at. let d = since.at_end c at in subst (λ (f : Files). KeptOrNot (stands content.key f) content.batches content.standing) (sym d.2) (backed.each d.0 d.1) }
 
 rose_later : (b m n : ℕ) → b ≤ m → Rose m n → Rose b n
 rose_later b m n le rose = omega (arith, le, rose)

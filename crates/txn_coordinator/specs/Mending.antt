@@ -55,6 +55,7 @@ pub record Mends (old new : CoordView) : Type 0 where
   pub was_whole : new.was_whole ≡ (old.was_whole || new.whole)
   pub reserved : new.reserved ≡ (if old.whole then old.reserved else 0)
   pub limits : new.limits ≡ old.limits
+  pub named : new.named ≡ old.named
 
 -- A step that is refused: it may have settled the log, and nothing else changes.
 pub record IsRefusedStep (old new : CoordView) : Type 0 where
@@ -65,3 +66,4 @@ pub record IsRefusedStep (old new : CoordView) : Type 0 where
   pub was_whole : new.was_whole ≡ old.was_whole
   pub reserved : new.reserved ≡ 0
   pub limits : new.limits ≡ old.limits
+  pub named : new.named ≡ old.named

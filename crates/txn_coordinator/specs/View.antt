@@ -11,7 +11,7 @@ use Rattle.txn_base.specs.Records.{coord_record}
 
 -- What its log holds; the entries that were replayed from it or added since, of which all its state speaks; whether these
 -- are all of the log's; how many closes have room reserved, 0 or 1; the low watermark when it was whole for the first
--- time, and whether it was; its limits.
+-- time, and whether it was; its limits; and how many parts have a name.
 pub record CoordView : Type 0 where
   pub content : LedgerContent
   pub front : List CoordEntry
@@ -20,6 +20,7 @@ pub record CoordView : Type 0 where
   pub opened_low : ℕ
   pub was_whole : Bool
   pub limits : Limits
+  pub named : ℕ
 
 -- The number of records in its log.
 abbrev pub coord_total : CoordView → ℕ
@@ -40,6 +41,7 @@ with_entry v e =
       opened_low = v.opened_low;
       was_whole = v.was_whole;
       limits = v.limits;
+      named = v.named;
     }
 
 -- With this entry in flight, after its append failed: all that was rebuilt is thrown away.
@@ -53,6 +55,7 @@ with_failed_entry v e =
       opened_low = v.opened_low;
       was_whole = v.was_whole;
       limits = v.limits;
+      named = v.named;
     }
 
 -- With room for so many closes.
@@ -66,6 +69,7 @@ reserving count v =
       opened_low = v.opened_low;
       was_whole = v.was_whole;
       limits = v.limits;
+      named = v.named;
     }
 
 -- The entries are the first of its log's. On a disk that doesn't tell what it holds, nobody knows whether they are.
@@ -76,9 +80,9 @@ IsFrontOf v = v.front ≡ take (length v.front) (coord_entries v.content.batches
 abbrev pub state_of : CoordView → PartState
 state_of v = if v.whole then Whole else Mending (length v.front) (coord_total v)
 
--- What a coordinator over this log is at first.
-abbrev pub first_view : LedgerContent → Limits → CoordView
-first_view content limits =
+-- What a coordinator over this log, where so many parts have a name, is at first.
+abbrev pub first_view : ℕ → LedgerContent → Limits → CoordView
+first_view named content limits =
     record {
       content = content;
       front = [];
@@ -87,11 +91,12 @@ first_view content limits =
       opened_low = 0;
       was_whole = false;
       limits = limits;
+      named = named;
     }
 
--- What a coordinator keeps of its fields: the number of its entries, room in the log for a close that was reserved, and
+-- What a coordinator keeps of its fields: how many names there may be, the number of its entries, room in the log for a close that was reserved, and
 -- room for a record.
-pub record CoordinatorInvariant (content : LedgerContent) (front : List CoordEntry) (at : ℕ) (whole was_whole reserved : Bool) (spare room bytes : ℕ) : Type 0 where
+pub record CoordinatorInvariant (named : ℕ) (content : LedgerContent) (front : List CoordEntry) (at : ℕ) (whole was_whole reserved : Bool) (spare room bytes : ℕ) : Type 0 where
   pub at_is : at ≡ length front
   pub within : length front ≤ length (records content.batches)
   pub all_of : IsTrue whole → length front ≡ length (records content.batches)
@@ -100,3 +105,4 @@ pub record CoordinatorInvariant (content : LedgerContent) (front : List CoordEnt
   pub spare_when : IsTrue reserved → 1 ≤ spare
   pub room_when : IsTrue reserved → 33 ≤ room
   pub bytes_room : 26 ≤ bytes
+  pub few_named : named ≤ 62

@@ -2,6 +2,7 @@
 ghost use Rattle.std.specs.Prelude.{◌≡◌, ◌≤◌, ◌↔◌, ℕ, List, length, All, IsTrue, IfOk, if◌then◌else◌};
 ghost use Rattle.std.specs.Int.{bit_at};
 ghost use Rattle.txn_base.specs.Content.{settled};
+ghost use Rattle.txn_base.specs.Limits.{InRange};
 ghost use Rattle.txn_base.specs.Records.{IsCoordEntry};
 ghost use Rattle.txn_model.specs.Skeletons.{coord_skeletons};
 ghost use Rattle.txn_model.specs.Coord.{CoordLawful, count_new, status_of, in_parts, decision_of};
@@ -29,6 +30,8 @@ pub struct Coordinator<R: RecordLog> {
     /// Room for the record that is on its way to the log.
     bytes: Bytes,
     limits: Limits,
+    /// How many parts have a name, numbered from 1.
+    named: u32,
     /// How many records the table stands for.
     at: u64,
     /// These are all of the log's.
@@ -48,15 +51,30 @@ impl<R: RecordLog> Model for Coordinator<R> {
     ghost use Rattle.std.specs.Prelude.{if◌then◌else◌};
     ghost use Rattle.txn_base.specs.Room.{capacity};
 
-    ghost view = { λ c. record { content = R.content c.log; front = c.table.front; whole = c.whole; reserved = if c.reserved then 1 else 0; opened_low = c.opened_low; was_whole = c.was_whole; limits = c.limits } };
+    ghost view = { λ c. record { content = R.content c.log; front = c.table.front; whole = c.whole; reserved = if c.reserved then 1 else 0; opened_low = c.opened_low; was_whole = c.was_whole; limits = c.limits; named = c.named } };
 
-    ghost invariant = { λ c. CoordinatorInvariant (R.content c.log) c.table.front c.at c.whole c.was_whole c.reserved (R.spare c.log) (R.room c.log) (capacity c.bytes) };
+    ghost invariant = { λ c. CoordinatorInvariant c.named (R.content c.log) c.table.front c.at c.whole c.was_whole c.reserved (R.spare c.log) (R.room c.log) (capacity c.bytes) };
 }
 
 impl<R: RecordLog + Drop> Coordinator<R> {
-    /// A coordinator of whose log nothing was replayed yet.
+    /// A coordinator of whose log nothing was replayed yet, where each part from 1 to 62 may have a name.
     pub fn over(alloc: Global, log: R, limits: &Limits) -> Result<Coordinator<R>, AllocError>
-        ensures { IfOk result (λ c. c ≡ first_view (R.content log) limits.now) }
+        requires { InRange limits.now }
+        ensures { IfOk result (λ c. c ≡ first_view 62 (R.content log) limits.now) }
+    {
+        Self::over_named(alloc, log, limits, 62)
+    }
+
+    /// The same where the parts from 1 to `named` have a name, which is at most 62.
+    pub fn over_named(
+        alloc: Global,
+        log: R,
+        limits: &Limits,
+        named: u32,
+    ) -> Result<Coordinator<R>, AllocError>
+        requires limits { InRange limits.now }
+        requires named { named ≤ 62 }
+        ensures { IfOk result (λ c. c ≡ first_view named (R.content log) limits.now) }
     {
         let mut bytes = Bytes::new(alloc);
         bytes.reserve(RECORD)?;
@@ -66,6 +84,7 @@ impl<R: RecordLog + Drop> Coordinator<R> {
             table: Table::new(alloc),
             bytes,
             limits: *limits,
+            named,
             at: 0,
             whole: false,
             reserved: false,
@@ -142,6 +161,7 @@ impl<R: RecordLog> Coordinator<R> {
         ensures settled { IsTrue self.now.whole → self.now.content.standing ≡ settled }
         ensures opened { IsTrue self.now.whole → IsTrue self.now.was_whole }
         ensures reserved { self.now.reserved ≤ 1 }
+        ensures named { self.now.named ≤ 62 }
     {
         let _count = self.table.count();
         if self.whole {

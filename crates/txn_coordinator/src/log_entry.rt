@@ -1,7 +1,8 @@
 //! One entry more, in a log and in the table.
+ghost use Rattle.txn_ledger.specs.Reading.{IsBackedOn};
 ghost use Rattle.std.specs.Prelude.{◌≡◌, ◌≤◌, ◌+◌, ◌∷◌, [], ◌++◌, true, Err, OnOk, OnErr};
 ghost use Rattle.txn_base.specs.declared.file_id.FileId.{FileId};
-ghost use Rattle.txn_base.specs.Content.{settled, landed, begun, Backed, Appends};
+ghost use Rattle.txn_base.specs.Content.{settled, landed, begun, Appends};
 ghost use Rattle.txn_base.specs.Disk.{ChangesOnly};
 ghost use Rattle.txn_base.specs.Records.{IsCoordEntry};
 ghost use Rattle.txn_base.specs.Room.{capacity};
@@ -39,7 +40,7 @@ pub fn log_entry<D: Disk, R: RecordLog>(
     requires bytes { 26 ≤ capacity bytes.old }
     requires spare { 1 ≤ R.spare log.old }
     requires room { 33 ≤ R.room log.old }
-    requires backed { Backed R.stands (D.image disk.old) (R.content log.old) }
+    requires backed { IsBackedOn R.RecordLog D.Disk disk.old (R.content log.old) }
     ensures ok { OnOk result (R.content log.new ≡ landed (R.content log.old) (coord_batch entry)) }
     ensures added { OnOk result (table.new.front ≡ table.old.front ++ entry ∷ []) }
     ensures err { OnErr result (R.content log.new ≡ begun (R.content log.old) (coord_batch entry)) }
@@ -47,7 +48,7 @@ pub fn log_entry<D: Disk, R: RecordLog>(
     ensures spare { OnOk result (R.spare log.new + 1 ≡ R.spare log.old) }
     ensures room { R.room log.old ≤ R.room log.new }
     ensures bytes { 26 ≤ capacity bytes.new }
-    ensures backed { Backed R.stands (D.image disk.new) (R.content log.new) }
+    ensures backed { IsBackedOn R.RecordLog D.Disk disk.new (R.content log.new) }
     ensures images { After D.Disk (Appends R.mine R.stands (R.content log.old) (coord_batch entry)) disk.old disk.new }
     ensures others { ChangesOnly (R.mine (R.content log.old).key) (D.seen disk.old) (D.seen disk.new) }
     ensures cause { FailsIn D.Disk (R.content log.old).key.part disk.old disk.new result }

@@ -1,7 +1,7 @@
 //! The next records of a log, read and tested.
+ghost use Rattle.txn_ledger.specs.Reading.{ReadsOn};
 ghost use Rattle.std.specs.Prelude.{◌≡◌, ◌≤◌, ◌<◌, ◌+◌, ◌++◌, ℕ, length, take, Err, IfOk, OnOk, OnErr};
 ghost use Rattle.txn_base.specs.declared.entry.CoordEntry.{CoordEntry};
-ghost use Rattle.txn_base.specs.Content.{settled, Backed};
 ghost use Rattle.txn_base.specs.Decoded.{coord_entries};
 ghost use Rattle.txn_base.specs.Disk.{Same};
 ghost use Rattle.txn_base.specs.Frames.{records};
@@ -22,15 +22,13 @@ use txn_records::read_coord;
 
 /// Reads a record and its entry.
 fn read_entry<D: Disk, L: ledger::Ledger, R: RecordLog>(
-    alloc: Global,
     log: &R,
     disk: &mut D,
     place: u64,
     steps: &mut Steps<L>,
 ) -> Result<CoordEntry, MendError>
     requires place { place < length (records (R.content log.now).batches) }
-    requires settled { (R.content log.now).standing ≡ settled }
-    requires backed { Backed R.stands (D.image disk.old) (R.content log.now) }
+    requires reads { ReadsOn R.RecordLog D.Disk disk.old (R.content log.now) }
     ensures fits { IfOk result IsCoordEntry }
     ensures read { D.tells → IfOk result (IsCoordRecord (record_in (R.content log.now) place)) }
     ensures damaged { (at : ℕ) → result ≡ Err (MendError.Damaged at) → at ≡ place }
@@ -40,7 +38,7 @@ fn read_entry<D: Disk, L: ledger::Ledger, R: RecordLog>(
     ensures images { After D.Disk Same disk.old disk.new }
     ensures cause { FaultsIn D.Disk (R.content log.now).key.part disk.old disk.new (result ≡ Err MendError.Fault) }
 {
-    match log.get(alloc, disk, place, steps) {
+    match log.get(disk, place, steps) {
         Ok(bytes) => match read_coord(bytes.as_slice()) {
             Some(entry) => Ok(entry),
             None => Err(MendError::Damaged { place }),
@@ -67,8 +65,7 @@ pub fn stage<D: Disk, L: ledger::Ledger, R: RecordLog>(
     requires within { end ≤ length (records (R.content log.now).batches) }
     requires named { named ≤ 62 }
     requires kept { AreEntries table.now.front }
-    requires settled { (R.content log.now).standing ≡ settled }
-    requires backed { Backed R.stands (D.image disk.old) (R.content log.now) }
+    requires reads { ReadsOn R.RecordLog D.Disk disk.old (R.content log.now) }
     ensures entries { IfOk result (λ staged. AreEntries (table.now.front ++ staged.items)) }
     ensures count { IfOk result (λ staged. length staged.items + at ≡ end) }
     ensures read { D.tells → IfOk result (λ staged. AreRecordsFrom (R.content log.now) at staged.items) }
@@ -87,7 +84,7 @@ pub fn stage<D: Disk, L: ledger::Ledger, R: RecordLog>(
         return Err(MendError::NoMemory);
     };
     for place in at..end {
-        let entry = read_entry(alloc, log, disk, place, steps)?;
+        let entry = read_entry(log, disk, place, steps)?;
         if !allows(table, staged.as_slice(), named, &entry) {
             return Err(MendError::Damaged { place });
         }
@@ -123,8 +120,7 @@ pub fn replay<D: Disk, L: ledger::Ledger, R: RecordLog>(
     requires order { at ≤ end }
     requires within { end ≤ length (records (R.content log.now).batches) }
     requires named { named ≤ 62 }
-    requires settled { (R.content log.now).standing ≡ settled }
-    requires backed { Backed R.stands (D.image disk.old) (R.content log.now) }
+    requires reads { ReadsOn R.RecordLog D.Disk disk.old (R.content log.now) }
     ensures grown { OnOk result (length table.new.front ≡ end) }
     ensures extends { OnOk result (table.old.front ≡ take at table.new.front) }
     ensures same { OnErr result (table.new.front ≡ table.old.front) }

@@ -8,7 +8,7 @@ use crate::decisions::is_closed;
 use txn_base::{CoordEntry, Status, TxnId};
 
 /// A transaction: its deadline in milliseconds, how far it is, and its parts. Bit p of `parts` stands for part p.
-#[derive(Clone, Copy, Debug, PartialEq, Eq)]
+#[derive(Clone, Copy, PartialEq, Eq)]
 pub struct Row {
     pub deadline: u64,
     pub status: Status,

@@ -8,10 +8,10 @@ use Rattle.txn_base.specs.declared.request.Request.{Request}
 use Rattle.txn_base.specs.declared.request.Request.TheVariants as request
 use Rattle.txn_base.specs.declared.reply.Reply.TheVariants as reply
 use Rattle.txn_base.specs.declared.txn.TxnId.{TxnId}
-use Rattle.txn_base.specs.Content.{Appends, Backed}
+use Rattle.txn_base.specs.Content.{Appends}
 use Rattle.txn_base.specs.Disk.{Elsewhere}
 use Rattle.txn_base.specs.Records.{IsCoordEntry}
-use Rattle.txn_ledger.specs.Ledger.{IsFile, StandsIn}
+use Rattle.txn_ledger.specs.Ledger.{IsFile, StandsIn, Stored}
 use Rattle.txn_coordinator.specs.declared.error.CoordError.{CoordError}
 use Rattle.txn_coordinator.specs.declared.error.CoordError.TheVariants as coord_error
 use Rattle.txn_coordinator.specs.Calls.{MayFail, begin_refusal, add_refusal, has_part, with_part, next_txn}
@@ -66,7 +66,7 @@ module _ {D : Type 0} (on : Ghosts D) (v : EngineView) (is : IsEngine v) (whole 
 
   -- where the coordinator refuses or fails
   module _ {A : Type 0} (o : Option CoordError) (no_fault : o ≡ Some coord_error.Fault → ⊥) (r : Result A CoordError) (refused : MatchOption o (MayFail r) (λ x. r ≡ Err x)) (entry : CoordEntry) (fits : IsCoordEntry entry)
-      (allowed : o ≡ None → IsTied v → Lawful (world_of v) → IsAllowed (in_coord entry) (world_of v)) (c' : CoordView) (tied : coordinator.IsFrontOf v.coord → coordinator.IsFrontOf c') (here : Backed StandsIn (on.image new) c'.content)
+      (allowed : o ≡ None → IsTied v → Lawful (world_of v) → IsAllowed (in_coord entry) (world_of v)) (c' : CoordView) (tied : coordinator.IsFrontOf v.coord → coordinator.IsFrontOf c') (here : Stored (on.image new) c'.content)
       (since : After on (Appends IsFile StandsIn v.coord.content (coord_batch entry)) old new) (others : Elsewhere v.coord.content.key (on.seen old) (on.seen new)) (cause : FaultsIn on v.coord.content.key.part old new (r ≡ Err coord_error.Fault)) where
     pub error_goes : (e : CoordError) → r ≡ Err e → ((e ≡ coord_error.Fault → ⊥) → c' ≡ v.coord) → ((e ≡ coord_error.Fault → ⊥) → new ≡ old) → EngineGoesOn on (is_fault (reply.No (coord_refusal e)) ≡ true) v (with_coord v c') old new
     error_goes e is_err same still = by_case (refusal_is o r e is_err refused)
@@ -94,7 +94,7 @@ module _ {D : Type 0} (on : Ghosts D) (v : EngineView) (is : IsEngine v) (whole 
     new_allowed none = row_allowed v is whole (request.New timeout) (in_coord new_entry) (early_new v.limits v timeout ok) (begin_row v is whole timeout ok ∙ ap (option_map coord_refusal) none) refl
 
     pub begun_goes : (no_fault : begin_refusal v.coord timeout ≡ Some coord_error.Fault → ⊥) (r : Result TxnId CoordError) (c' : CoordView) → IsCoordEntry new_entry → MatchOption (begin_refusal v.coord timeout) (MayFail r) (λ x. r ≡ Err x) → OnOk r (c' ≡ with_entry v.coord new_entry)
-        → IfErr r (λ e. (e ≡ coord_error.Fault → ⊥) → c' ≡ v.coord) → IfErr r (λ e. (e ≡ coord_error.Fault → ⊥) → new ≡ old) → (coordinator.IsFrontOf v.coord → coordinator.IsFrontOf c') → Backed StandsIn (on.image new) c'.content
+        → IfErr r (λ e. (e ≡ coord_error.Fault → ⊥) → c' ≡ v.coord) → IfErr r (λ e. (e ≡ coord_error.Fault → ⊥) → new ≡ old) → (coordinator.IsFrontOf v.coord → coordinator.IsFrontOf c') → Stored (on.image new) c'.content
         → After on (Appends IsFile StandsIn v.coord.content (coord_batch new_entry)) old new → Elsewhere v.coord.content.key (on.seen old) (on.seen new) → FaultsIn on v.coord.content.key.part old new (r ≡ Err coord_error.Fault)
         → EngineGoesOn on (is_fault (begun_reply r) ≡ true) v (with_coord v c') old new
     begun_goes no_fault (Ok x) c' fits refused now same still tied here since others cause =
@@ -114,7 +114,7 @@ module _ {D : Type 0} (on : Ghosts D) (v : EngineView) (is : IsEngine v) (whole 
 
     pub added_goes : (no_fault : add_refusal v.coord x p ≡ Some coord_error.Fault → ⊥) (r : Result (Unit {0}) CoordError) (c' : CoordView) → IsCoordEntry add_entry → MatchOption (add_refusal v.coord x p) (MayFail r) (λ y. r ≡ Err y)
         → (add_refusal v.coord x p ≡ None → has_part v.coord x p ≡ true → IsOk r) → (has_part v.coord x p ≡ true → new ≡ old) → OnOk r (c' ≡ with_part v.coord x p)
-        → IfErr r (λ e. (e ≡ coord_error.Fault → ⊥) → c' ≡ v.coord) → IfErr r (λ e. (e ≡ coord_error.Fault → ⊥) → new ≡ old) → (coordinator.IsFrontOf v.coord → coordinator.IsFrontOf c') → Backed StandsIn (on.image new) c'.content
+        → IfErr r (λ e. (e ≡ coord_error.Fault → ⊥) → c' ≡ v.coord) → IfErr r (λ e. (e ≡ coord_error.Fault → ⊥) → new ≡ old) → (coordinator.IsFrontOf v.coord → coordinator.IsFrontOf c') → Stored (on.image new) c'.content
         → After on (Appends IsFile StandsIn v.coord.content (coord_batch add_entry)) old new → Elsewhere v.coord.content.key (on.seen old) (on.seen new) → FaultsIn on v.coord.content.key.part old new (r ≡ Err coord_error.Fault)
         → EngineGoesOn on (is_fault (added_reply r) ≡ true) v (with_coord v c') old new
     added_goes no_fault (Ok u) c' fits refused repeated idle now same still tied here since others cause = by_part (has_part v.coord x p) refl

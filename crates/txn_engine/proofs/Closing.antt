@@ -11,14 +11,14 @@ use Rattle.txn_base.specs.declared.txn.TxnId.{TxnId}
 use Rattle.txn_base.specs.declared.txn.Decision.{Decision}
 use Rattle.txn_base.specs.declared.txn.Decision.TheVariants.{Commit, Abort}
 use Rattle.txn_base.specs.declared.txn.Status.{Status}
-use Rattle.txn_base.specs.Content.{Appends, Backed}
+use Rattle.txn_base.specs.Content.{Appends}
 use Rattle.txn_base.specs.Disk.{Elsewhere, HasPartCause}
 use Rattle.txn_base.specs.Outside.{Rose}
 use Rattle.txn_base.specs.Records.{IsTxnId, IsCoordEntry}
 use Rattle.txn_coordinator.specs.Calls.{closing_of_view}
 use Rattle.txn_coordinator.specs.View as coordinator
 use Rattle.txn_coordinator.specs.View.{CoordView, coord_batch, with_entry, with_failed_entry, reserving}
-use Rattle.txn_ledger.specs.Ledger.{IsFile, StandsIn}
+use Rattle.txn_ledger.specs.Ledger.{IsFile, StandsIn, Stored}
 use Rattle.txn_model.specs.Allowed.{IsAllowed}
 use Rattle.txn_model.specs.Coord.{CoordLawful, coord_allows, has_new, status_of, decision_of, closing_of, in_parts, closing_skeleton}
 use Rattle.txn_model.specs.Deadlines.{is_undriven, is_closed}
@@ -221,7 +221,7 @@ module _ (v : EngineView) (is : IsEngine v) (w : EngineView) (view : v ≡ w) (w
         let same : world_of v ≡ whole_world v = world_is v is whole tied in
         subst (IsAllowed (in_coord (closing_entry x d))) (sym same) (closing_allowed (whole_world v) x d (subst Lawful same lawful) unclosed decided (stands tied lawful))
 
-    pub close_goes : {D : Type 0} (on : Ghosts D) (old new : D) → IsBacked (on.image old) w → (coordinator.IsFrontOf v.coord → coordinator.IsFrontOf c') → Backed StandsIn (on.image new) c'.content
+    pub close_goes : {D : Type 0} (on : Ghosts D) (old new : D) → IsBacked (on.image old) w → (coordinator.IsFrontOf v.coord → coordinator.IsFrontOf c') → Stored (on.image new) c'.content
         → After on (Appends IsFile StandsIn v.coord.content (coord_batch (closing_of_view v.coord x))) old new → Elsewhere v.coord.content.key (on.seen old) (on.seen new) → FailsIn on v.coord.content.key.part old new r
         → EngineGoesOn on (IsErr r) w u old new
     close_goes on old new backed tie here since others cause =

@@ -47,6 +47,7 @@ pub logged_is : (limits : Limits) (n : ℕ) (v : CoordView) (e : CoordEntry) →
 logged_is limits n v e is whole allowed = record {
   key = is.key;
   limits_are = is.limits_are;
+  named_is = is.named_is;
   lawful = lawful_more n v.front e is.lawful allowed;
   settled_is = λ w. refl;
   all = λ w. length-append v.front (e ∷ []) ∙ ap (λ (m : ℕ). m + 1) (is.all whole) ∙ sym (one_more v.content.batches e);
@@ -56,6 +57,7 @@ pub failed_is : (limits : Limits) (n : ℕ) (v : CoordView) (e : CoordEntry) →
 failed_is limits n v e is = record {
   key = is.key;
   limits_are = is.limits_are;
+  named_is = is.named_is;
   lawful = refl;
   settled_is = λ w. absurd (never w);
   all = λ w. absurd (never w);
@@ -65,7 +67,7 @@ failed_is limits n v e is = record {
     never w = cc
 
 pub reserving_is : (limits : Limits) (n k : ℕ) (v : CoordView) → IsCoordinator limits n v → IsCoordinator limits n (reserving k v)
-reserving_is limits n k v is = record { key = is.key; limits_are = is.limits_are; lawful = is.lawful; settled_is = is.settled_is; all = is.all }
+reserving_is limits n k v is = record { key = is.key; limits_are = is.limits_are; named_is = is.named_is; lawful = is.lawful; settled_is = is.settled_is; all = is.all }
 
 -- an engine with another coordinator
 pub engine_with : (v : EngineView) → IsEngine v → (c : CoordView) → IsCoordinator v.limits (length v.names) c → (latest : ℕ) → latest ≤ 2 ^ 62 → IsEngine (record { names = v.names; coord = c; topics = v.topics; latest = latest; limits = v.limits })

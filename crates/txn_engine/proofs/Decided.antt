@@ -16,7 +16,7 @@ use Rattle.txn_base.specs.declared.txn.Decision.{Decision}
 use Rattle.txn_base.specs.declared.txn.Decision.TheVariants.{Commit, Abort}
 use Rattle.txn_base.specs.declared.txn.Status.{Status}
 use Rattle.txn_base.specs.declared.txn.Status.TheVariants.{Open, Committing, Committed, Aborting, Aborted}
-use Rattle.txn_base.specs.Content.{Backed, Appends}
+use Rattle.txn_base.specs.Content.{Appends}
 use Rattle.txn_base.specs.Disk.{Elsewhere, CountsFaults}
 use Rattle.txn_base.specs.Records.{IsTxnId, IsCoordEntry}
 use Rattle.txn_coordinator.specs.declared.error.CoordError.{CoordError}
@@ -24,7 +24,7 @@ use Rattle.txn_coordinator.specs.declared.error.CoordError.TheVariants as coord_
 use Rattle.txn_coordinator.specs.Calls.{MayFail, status_in_view, decide_refusal, decide_refusal_at, decided}
 use Rattle.txn_coordinator.specs.View as coordinator
 use Rattle.txn_coordinator.specs.View.{CoordView, coord_batch, with_entry, with_failed_entry}
-use Rattle.txn_ledger.specs.Ledger.{IsFile, StandsIn}
+use Rattle.txn_ledger.specs.Ledger.{IsFile, StandsIn, Stored}
 use Rattle.txn_model.specs.Allowed.{IsAllowed}
 use Rattle.txn_model.specs.Answers.{Answers, AnswersAt, Ends, Succeeds, AppendFails, moved, uses}
 use Rattle.txn_model.specs.Coord.{CoordLawful, coord_allows, status_of, decision_of, closing_of, has_new, is_open, says_decision, in_parts, is_add, closed, deciding}
@@ -335,7 +335,7 @@ module _ (v : EngineView) (is : IsEngine v) (whole : IsWhole v) (x : TxnId) (d :
   -- ---- How it goes on.
 
   module _ {D : Type 0} (on : Ghosts D) (old new : D) (backed : IsBacked (on.image old) v)
-      (idle : is_open (status_in_view v.coord x) ≡ false → new ≡ old) (unwritten : IfErr result (λ e. (e ≡ coord_error.Fault → ⊥) → new ≡ old)) (tie : coordinator.IsFrontOf v.coord → coordinator.IsFrontOf c') (here : Backed StandsIn (on.image new) c'.content)
+      (idle : is_open (status_in_view v.coord x) ≡ false → new ≡ old) (unwritten : IfErr result (λ e. (e ≡ coord_error.Fault → ⊥) → new ≡ old)) (tie : coordinator.IsFrontOf v.coord → coordinator.IsFrontOf c') (here : Stored (on.image new) c'.content)
       (since : After on (Appends IsFile StandsIn v.coord.content (coord_batch (decision_entry x d))) old new) (others : Elsewhere v.coord.content.key (on.seen old) (on.seen new)) (cause : FaultsIn on v.coord.content.key.part old new (result ≡ Err coord_error.Fault)) where
     allowed_open : is_open (status_in_view v.coord x) ≡ true → IsTied v → Lawful (world_of v) → IsAllowed (in_coord (decision_entry x d)) (world_of v)
     allowed_open still_open tied lawful =
@@ -423,7 +423,7 @@ module _ (v : EngineView) (is : IsEngine v) (w : EngineView) (view : v ≡ w) (w
         (refused_told v is whole_here x d fits result c' refused repeated now fault same own_here tied_here f g fs gs m e is_err (still e is_err) cause))
 
   module _ {D : Type 0} (on : Ghosts D) (old new : D) (backed' : IsBacked (on.image old) w) where
-    pub goes_clause : (idle : is_open (status_in_view v.coord x) ≡ false → new ≡ old) (unwritten : IfErr result (λ e. (e ≡ coord_error.Fault → ⊥) → new ≡ old)) (tie : coordinator.IsFrontOf v.coord → coordinator.IsFrontOf c') (here : Backed StandsIn (on.image new) c'.content)
+    pub goes_clause : (idle : is_open (status_in_view v.coord x) ≡ false → new ≡ old) (unwritten : IfErr result (λ e. (e ≡ coord_error.Fault → ⊥) → new ≡ old)) (tie : coordinator.IsFrontOf v.coord → coordinator.IsFrontOf c') (here : Stored (on.image new) c'.content)
         (since : After on (Appends IsFile StandsIn v.coord.content (coord_batch (decision_entry x d))) old new) (others : Elsewhere v.coord.content.key (on.seen old) (on.seen new)) (cause : FaultsIn on v.coord.content.key.part old new (result ≡ Err coord_error.Fault))
         → EngineGoesOn on (result ≡ Err coord_error.Fault) w (with_coord v c') old new
     goes_clause idle unwritten tie here since others cause =

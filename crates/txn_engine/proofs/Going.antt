@@ -9,13 +9,13 @@ use Rattle.txn_base.specs.declared.entry.CoordEntry.{CoordEntry}
 use Rattle.txn_base.specs.declared.entry.TopicEntry.{TopicEntry}
 use Rattle.txn_base.specs.declared.file_id.FileId.{FileId}
 use Rattle.txn_base.specs.declared.limits.Limits.{Limits}
-use Rattle.txn_base.specs.Content.{LedgerContent, KeptOrNot, Appends, Backed}
+use Rattle.txn_base.specs.Content.{LedgerContent, KeptOrNot, Appends}
 use Rattle.txn_base.specs.Disk.{Files, Elsewhere, CountsFaults}
 use Rattle.txn_base.specs.Frames.{Batch as FrameBatch, records, Stands}
 use Rattle.txn_base.specs.Outside.{Rose}
 use Rattle.txn_base.specs.Records.{IsCoordEntry}
 use Rattle.txn_base.proofs.Laws.{weaker, goes_on, started}
-use Rattle.txn_ledger.specs.Ledger.{IsFile, StandsIn}
+use Rattle.txn_ledger.specs.Ledger.{IsFile, StandsIn, Stored}
 use Rattle.txn_base.specs.declared.reply.Reply.{Reply}
 use Rattle.txn_model.specs.Allowed.{IsAllowed}
 use Rattle.txn_model.specs.Replies.{is_fault}
@@ -75,42 +75,43 @@ files_apart p q ne e = ne (ap (λ (f : FileId). f.part) e)
 module _ {D : Type 0} (on : Ghosts D) where
   -- a ledger whose file a call leaves
   module _ (old new : D) (content : LedgerContent) (batch : FrameBatch) (since : After on (Appends IsFile StandsIn content batch) old new) where
-    still_backed : (k : LedgerContent) → (k.key ≡ content.key → ⊥) → Backed StandsIn (on.image old) k → Backed StandsIn (on.image new) k
+    still_backed : (k : LedgerContent) → (k.key ≡ content.key → ⊥) → Stored (on.image old) k → Stored (on.image new) k
     still_backed k apart backed = record {
       each = λ c at.
           let from = since.at_end c at in
           subst (λ (bytes : List ℕ). KeptOrNot (Stands bytes) k.batches k.standing) (sym (from.2.others k.key apart)) (backed.each from.0 from.1);
+      exact = λ is c at. let from = since.at_end c at in from.2.others k.key apart ∙ backed.exact is from.0 from.1;
     }
 
     -- topics from part k on, where the file is that of a part before
-    pub topics_still_backed : (limits : Limits) (p k : ℕ) (ts : List TopicView) → content.key ≡ ledger_file p → p < k → AreTopics limits k ts → All (λ t. Backed StandsIn (on.image old) t.content) ts → All (λ t. Backed StandsIn (on.image new) t.content) ts
-    topics_still_backed limits p k [] key past are backed = All-nil (λ t. Backed StandsIn (on.image new) t.content)
+    pub topics_still_backed : (limits : Limits) (p k : ℕ) (ts : List TopicView) → content.key ≡ ledger_file p → p < k → AreTopics limits k ts → All (λ t. Stored (on.image old) t.content) ts → All (λ t. Stored (on.image new) t.content) ts
+    topics_still_backed limits p k [] key past are backed = All-nil (λ t. Stored (on.image new) t.content)
     topics_still_backed limits p k (t ∷ ts) key past are backed =
-        let first : Backed StandsIn (on.image new) t.content =
-        still_backed t.content (λ same. files_apart k p (λ e. never k p past e) (sym are.0.key ∙ same ∙ key)) (All-head (λ t. Backed StandsIn (on.image old) t.content) t ts backed) in
-        All-cons (λ t. Backed StandsIn (on.image new) t.content) t ts first
-        (topics_still_backed limits p (suc k) ts key (omega (arith, past)) are.1 (All-tail (λ t. Backed StandsIn (on.image old) t.content) t ts backed))
+        let first : Stored (on.image new) t.content =
+        still_backed t.content (λ same. files_apart k p (λ e. never k p past e) (sym are.0.key ∙ same ∙ key)) (All-head (λ t. Stored (on.image old) t.content) t ts backed) in
+        All-cons (λ t. Stored (on.image new) t.content) t ts first
+        (topics_still_backed limits p (suc k) ts key (omega (arith, past)) are.1 (All-tail (λ t. Stored (on.image old) t.content) t ts backed))
       where
         never : (k p : ℕ) → p < k → k ≡ p → ⊥
         never k p past e = omega (arith, past, e)
 
     -- topics from part k on, where the file is that of the one at this index
-    pub topics_backed_but : (limits : Limits) (p k j : ℕ) (ts : List TopicView) (t : TopicView) → content.key ≡ ledger_file p → p ≡ k + j → Backed StandsIn (on.image new) t.content → AreTopics limits k ts → All (λ t. Backed StandsIn (on.image old) t.content) ts
-        → All (λ t. Backed StandsIn (on.image new) t.content) (replaced ts j t)
-    topics_backed_but limits p k j [] t key is here are backed = All-nil (λ t. Backed StandsIn (on.image new) t.content)
+    pub topics_backed_but : (limits : Limits) (p k j : ℕ) (ts : List TopicView) (t : TopicView) → content.key ≡ ledger_file p → p ≡ k + j → Stored (on.image new) t.content → AreTopics limits k ts → All (λ t. Stored (on.image old) t.content) ts
+        → All (λ t. Stored (on.image new) t.content) (replaced ts j t)
+    topics_backed_but limits p k j [] t key is here are backed = All-nil (λ t. Stored (on.image new) t.content)
     topics_backed_but limits p k zero (u ∷ us) t key is here are backed =
-        All-cons (λ t. Backed StandsIn (on.image new) t.content) t us here (topics_still_backed limits p (suc k) us key (omega (arith, is)) are.1 (All-tail (λ t. Backed StandsIn (on.image old) t.content) u us backed))
+        All-cons (λ t. Stored (on.image new) t.content) t us here (topics_still_backed limits p (suc k) us key (omega (arith, is)) are.1 (All-tail (λ t. Stored (on.image old) t.content) u us backed))
     topics_backed_but limits p k (suc j) (u ∷ us) t key is here are backed =
-        let first : Backed StandsIn (on.image new) u.content =
-        still_backed u.content (λ same. files_apart k p (λ e. never k p j is e) (sym are.0.key ∙ same ∙ key)) (All-head (λ t. Backed StandsIn (on.image old) t.content) u us backed) in
-        All-cons (λ t. Backed StandsIn (on.image new) t.content) u (replaced us j t) first
-        (topics_backed_but limits p (suc k) j us t key (omega (arith, is)) here are.1 (All-tail (λ t. Backed StandsIn (on.image old) t.content) u us backed))
+        let first : Stored (on.image new) u.content =
+        still_backed u.content (λ same. files_apart k p (λ e. never k p j is e) (sym are.0.key ∙ same ∙ key)) (All-head (λ t. Stored (on.image old) t.content) u us backed) in
+        All-cons (λ t. Stored (on.image new) t.content) u (replaced us j t) first
+        (topics_backed_but limits p (suc k) j us t key (omega (arith, is)) here are.1 (All-tail (λ t. Stored (on.image old) t.content) u us backed))
       where
         never : (k p j : ℕ) → p ≡ k + suc j → k ≡ p → ⊥
         never k p j is e = omega (arith, is, e)
 
     -- the coordinator, where the file is a topic's
-    pub coord_still_backed : (p : ℕ) (k : LedgerContent) → content.key ≡ ledger_file p → 1 ≤ p → k.key ≡ ledger_file 0 → Backed StandsIn (on.image old) k → Backed StandsIn (on.image new) k
+    pub coord_still_backed : (p : ℕ) (k : LedgerContent) → content.key ≡ ledger_file p → 1 ≤ p → k.key ≡ ledger_file 0 → Stored (on.image old) k → Stored (on.image new) k
     coord_still_backed p k key some own backed = still_backed k (λ same. files_apart 0 p (λ e. never p some e) (sym own ∙ same ∙ key)) backed
       where
         never : (p : ℕ) → 1 ≤ p → 0 ≡ p → ⊥
@@ -126,8 +127,8 @@ module _ {D : Type 0} (on : Ghosts D) where
       whole = inl (record { coord = subst (λ (c : CoordView). IsTrue c.whole) (sym coord) whole.coord; topics = subst (λ (ts : List TopicView). All (λ t. IsTrue t.whole) ts) (sym topics) whole.topics });
       tied = λ tied. record { coord = subst coordinator.IsFrontOf (sym coord) tied.coord; topics = subst (All topic.IsFrontOf) (sym topics) tied.topics };
       backed = record {
-        coord = subst (λ (c : CoordView). Backed StandsIn (on.image disk) c.content) (sym coord) backed.coord;
-        topics = subst (λ (ts : List TopicView). All (λ t. Backed StandsIn (on.image disk) t.content) ts) (sym topics) backed.topics;
+        coord = subst (λ (c : CoordView). Stored (on.image disk) c.content) (sym coord) backed.coord;
+        topics = subst (λ (ts : List TopicView). All (λ t. Stored (on.image disk) t.content) ts) (sym topics) backed.topics;
       };
       images = started on disk (KeepsAboveIf (IsTied v) v.names) (λ c at tied floor above. above);
       grows = files_first on disk;
@@ -198,7 +199,7 @@ module _ {D : Type 0} (on : Ghosts D) where
     module _ (v : EngineView) (is : IsEngine v) (whole : IsWhole v) (old new : D) (backed : IsBacked (on.image old) v) where
       -- an entry of the coordinator
       pub coord_goes : (X Y : Type 0) (e : CoordEntry) (v' : EngineView) → IsCoordEntry e → (IsTied v → Lawful (world_of v) → IsAllowed (in_coord e) (world_of v)) → v'.names ≡ v.names → v'.topics ≡ v.topics → IsTrue v'.coord.whole ⊎ X
-          → (coordinator.IsFrontOf v.coord → coordinator.IsFrontOf v'.coord) → Backed StandsIn (on.image new) v'.coord.content → After on (Appends IsFile StandsIn v.coord.content (coord_batch e)) old new → Elsewhere v.coord.content.key (on.seen old) (on.seen new)
+          → (coordinator.IsFrontOf v.coord → coordinator.IsFrontOf v'.coord) → Stored (on.image new) v'.coord.content → After on (Appends IsFile StandsIn v.coord.content (coord_batch e)) old new → Elsewhere v.coord.content.key (on.seen old) (on.seen new)
           → FaultsIn on v.coord.content.key.part old new Y → (X → Y) → EngineGoesOn on X v v' old new
       coord_goes X Y e v' fits allowed names topics now tied coord_here since others cause means = record {
         names = names;
@@ -206,7 +207,7 @@ module _ {D : Type 0} (on : Ghosts D) where
         tied = λ was. record { coord = tied was.coord; topics = subst (All topic.IsFrontOf) (sym topics) was.topics };
         backed = record {
           coord = coord_here;
-          topics = subst (λ (ts : List TopicView). All (λ t. Backed StandsIn (on.image new) t.content) ts) (sym topics)
+          topics = subst (λ (ts : List TopicView). All (λ t. Stored (on.image new) t.content) ts) (sym topics)
               (topics_still_backed old new v.coord.content (coord_batch e) since v.limits 0 1 v.topics is.coord.key (omega arith) is.topics backed.topics);
         };
         images = weaker on (Appends IsFile StandsIn v.coord.content (coord_batch e)) (KeepsAboveIf (IsTied v) v.names) old new
@@ -228,7 +229,7 @@ module _ {D : Type 0} (on : Ghosts D) where
 
         pub topic_goes : (X Y : Type 0) (es : List TopicEntry) (t : TopicView) (v' : EngineView) → at.content.key ≡ ledger_file (1 + j) → RecordsOf IsBareRecord (records (topic_batch es ∷ [])) es → (IsTied v → Lawful (world_of v) → IsAllowed (in_topic (1 + j) es) (world_of v))
             → v'.names ≡ v.names → v'.coord ≡ v.coord → v'.topics ≡ replaced v.topics j t → IsTrue t.whole ⊎ X
-            → (topic.IsFrontOf at → topic.IsFrontOf t) → Backed StandsIn (on.image new) t.content → After on (Appends IsFile StandsIn at.content (topic_batch es)) old new → Elsewhere at.content.key (on.seen old) (on.seen new)
+            → (topic.IsFrontOf at → topic.IsFrontOf t) → Stored (on.image new) t.content → After on (Appends IsFile StandsIn at.content (topic_batch es)) old new → Elsewhere at.content.key (on.seen old) (on.seen new)
             → FaultsIn on at.content.key.part old new Y → (X → Y) → EngineGoesOn on X v v' old new
         topic_goes X Y es t v' key each allowed names coord topics now tied here since others cause means = record {
           names = names;
@@ -241,8 +242,8 @@ module _ {D : Type 0} (on : Ghosts D) where
             topics = subst (All topic.IsFrontOf) (sym topics) (all_replaced topic.IsFrontOf v.topics j t (tied (at_index topic.IsFrontOf v.topics j (some_topic v) below was.topics)) was.topics);
           };
           backed = record {
-            coord = subst (λ (c : CoordView). Backed StandsIn (on.image new) c.content) (sym coord) (coord_still_backed old new at.content (topic_batch es) since (1 + j) v.coord.content key (omega arith) is.coord.key backed.coord);
-            topics = subst (λ (ts : List TopicView). All (λ t. Backed StandsIn (on.image new) t.content) ts) (sym topics)
+            coord = subst (λ (c : CoordView). Stored (on.image new) c.content) (sym coord) (coord_still_backed old new at.content (topic_batch es) since (1 + j) v.coord.content key (omega arith) is.coord.key backed.coord);
+            topics = subst (λ (ts : List TopicView). All (λ t. Stored (on.image new) t.content) ts) (sym topics)
                 (topics_backed_but old new at.content (topic_batch es) since v.limits (1 + j) 1 j v.topics t key refl here is.topics backed.topics);
           };
           images = weaker on (Appends IsFile StandsIn at.content (topic_batch es)) (KeepsAboveIf (IsTied v) v.names) old new

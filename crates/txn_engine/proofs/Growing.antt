@@ -1,19 +1,19 @@
 -- What files stand for only grows, through a call and through calls behind each other.
-use Rattle.std.proofs.Common.{◌≡◌, ⊎_elim, inl, inr, ℕ, List, [], ◌∷◌, ◌++◌, sym, subst, append_assoc, append-nil}
+use Rattle.std.proofs.Common.{◌≡◌, ⊎_elim, inl, inr, ℕ, List, [], ◌∷◌, ◌++◌, refl, sym, ◌∙◌, subst, append_assoc, append-nil}
 use Rattle.txn_base.specs.declared.disk.Disk.{Ghosts}
 use Rattle.txn_base.specs.declared.file_id.FileId.{FileId}
 use Rattle.txn_base.specs.Content.{LedgerContent, Appends}
 use Rattle.txn_base.specs.Disk.{Files, Same}
-use Rattle.txn_base.specs.Frames.{Batch, Stands}
+use Rattle.txn_base.specs.Frames.{Batch, Stands, IsDamagedAt}
 use Rattle.txn_base.specs.Moves.{After}
-use Rattle.txn_base.proofs.Laws.{goes_on, started, stands_one, weaker}
+use Rattle.txn_base.proofs.Laws.{goes_on, started, stands_one, stands_not_damaged, weaker}
 use Rattle.txn_ledger.specs.Ledger.{IsFile, StandsIn}
 use Rattle.txn_model.specs.declared.world.World.{World}
 use Rattle.txn_model.specs.Sound.{StandsFor}
 use Rattle.txn_model.specs.World.{Extends}
 use Rattle.txn_model.proofs.Laws.Worlds.{extends_both, extends_same}
-use Rattle.txn_engine.specs.Growing.{Grows, GrowsList, GrowsWorld}
-use Rattle.txn_engine.specs.Opening.{KeepsLists, KeepsWorld}
+use Rattle.txn_engine.specs.Growing.{Grows, GrowsFile, GrowsList, GrowsWorld}
+use Rattle.txn_engine.specs.Opening.{KeepsFiles, KeepsWorld}
 use Rattle.txn_engine.proofs.OpeningFiles.{same_or_not}
 
 -- ---- Between two moments.
@@ -21,14 +21,22 @@ use Rattle.txn_engine.proofs.OpeningFiles.{same_or_not}
 list_stays : (before after : List ℕ) (batches : List Batch) → Stands after batches → (more : List Batch) × Stands after (batches ++ more)
 list_stays before after batches stands = ([], subst (Stands after) (sym (append-nil batches)) stands)
 
+file_itself : (bytes : List ℕ) → GrowsFile bytes bytes
+file_itself bytes = record { list = list_stays bytes bytes; damage = λ entry damaged. refl }
+
 grows_itself : (c : Files) → Grows c c
-grows_itself c file batches stands = list_stays (c file) (c file) batches stands
+grows_itself c file = file_itself (c file)
 
 grows_after : (a b c : Files) → Grows a b → Grows b c → Grows a c
-grows_after a b c one two file batches stands =
-    let first = one file batches stands in
-    let second = two file (batches ++ first.0) first.1 in
-    (first.0 ++ second.0, subst (Stands (c file)) (append_assoc batches first.0 second.0) second.1)
+grows_after a b c one two file = record {
+  list = λ batches stands.
+      let first = (one file).list batches stands in
+      let second = (two file).list (batches ++ first.0) first.1 in
+      (first.0 ++ second.0, subst (Stands (c file)) (append_assoc batches first.0 second.0) second.1);
+  damage = λ entry damaged.
+      let same = (one file).damage entry damaged in
+      (two file).damage entry (subst (λ (l : List ℕ). IsDamagedAt l entry) (sym same) damaged) ∙ same;
+}
 
 same_grows : (d c : Files) → Same d c → Grows d c
 same_grows d c same = subst (Grows d) (sym same) (grows_itself d)
@@ -36,8 +44,9 @@ same_grows d c same = subst (Grows d) (sym same) (grows_itself d)
 -- an append to a ledger that stood for its batches
 pub appended_grows : (content : LedgerContent) (batch : Batch) (d c : Files) → StandsIn content.key d content.batches → Appends IsFile StandsIn content batch d c → Grows d c
 appended_grows content batch d c before step file = ⊎_elim
-    (λ same. subst (λ (f : FileId). GrowsList (d f) (c f)) (sym same) here)
-    (λ apart. subst (GrowsList (d file)) (sym (step.others file apart)) (λ batches stands. list_stays (d file) (d file) batches stands))
+    (λ same. subst (λ (f : FileId). GrowsFile (d f) (c f)) (sym same)
+    (record { list = here; damage = λ entry damaged. absurd (stands_not_damaged (d content.key) content.batches entry before damaged) }))
+    (λ apart. subst (GrowsFile (d file)) (sym (step.others file apart)) (file_itself (d file)))
     (same_or_not file content.key)
   where
     here : GrowsList (d content.key) (c content.key)
@@ -63,8 +72,8 @@ module _ {D : Type 0} (on : Ghosts D) where
   pub files_same : (old new : D) → After on Same old new → After on Grows old new
   files_same old new since = weaker on Same Grows old new (λ d c at same. same_grows d c same) since
 
-  pub lists_files : (old new : D) → After on KeepsLists old new → After on Grows old new
-  lists_files old new since = weaker on KeepsLists Grows old new (λ d c at keeps file batches stands. list_stays (d file) (c file) batches (keeps file batches stands)) since
+  pub lists_files : (old new : D) → After on KeepsFiles old new → After on Grows old new
+  lists_files old new since = weaker on KeepsFiles Grows old new (λ d c at keeps file. record { list = λ batches stands. list_stays (d file) (c file) batches ((keeps file).list batches stands); damage = (keeps file).damage }) since
 
   module _ (names : List (List ℕ)) where
     pub worlds_first : (disk : D) → After on (GrowsWorld names) disk disk

@@ -6,3 +6,7 @@ pub use Rattle.txn_engine.proofs.Left.{left_kept}
 pub use Rattle.txn_engine.proofs.Growing.{files_first, files_then, lists_files, worlds_first, worlds_then, lists_worlds}
 -- A topic's name is no subscription's.
 pub use Rattle.txn_engine.proofs.TopicNames.{not_sub}
+-- A file that isn't touched stays as it was.
+pub use Rattle.txn_engine.proofs.OpeningFiles.{keeps_itself}
+-- Where all parts are rebuilt, ledgers are just their frames.
+pub use Rattle.txn_engine.proofs.Tidy.{just_frames}

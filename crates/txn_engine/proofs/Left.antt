@@ -4,12 +4,12 @@ use Rattle.std.proofs.Math.ListN.{get_or}
 use Rattle.txn_base.specs.declared.entry.CoordEntry.{CoordEntry}
 use Rattle.txn_base.specs.declared.entry.TopicEntry.{TopicEntry}
 use Rattle.txn_base.specs.declared.file_id.FileId.{FileId}
-use Rattle.txn_base.specs.Content.{Standing, settled, in_flight, looked_at, KeptOrNot, Backed}
+use Rattle.txn_base.specs.Content.{Standing, settled, in_flight, looked_at, KeptOrNot}
 use Rattle.txn_base.specs.Decoded.{coord_entry_of, topic_entry_of, coord_entries, topic_entries}
 use Rattle.txn_base.specs.Disk.{Files}
 use Rattle.txn_base.specs.Frames.{Batch, Stands}
 use Rattle.txn_base.specs.Records.{IsCoordRecord}
-use Rattle.txn_ledger.specs.Ledger.{StandsIn}
+use Rattle.txn_ledger.specs.Ledger.{Stored}
 use Rattle.txn_model.specs.declared.world.World.{World}
 use Rattle.txn_model.specs.Shape.{topic_parts}
 use Rattle.txn_model.specs.Sound.{ledger_file, StandsForEntries, StandsForEither, IsBareRecord, StandsFor, StandsForKept}
@@ -64,7 +64,7 @@ module _ (v : EngineView) (is : IsEngine v) (image : Files → Type 0) (backed :
   topic_left p h =
       let found = index_of v is p h in
       let t : TopicView = get_or v.topics (p - 1) (some_topic v) in
-      let one : Backed StandsIn image t.content = at_index (λ t. Backed StandsIn image t.content) v.topics (p - 1) (some_topic v) found.1 backed.topics in
+      let one : Stored image t.content = at_index (λ t. Stored image t.content) v.topics (p - 1) (some_topic v) found.1 backed.topics in
       let here : KeptOrNot (Stands (c (ledger_file p))) t.content.batches t.content.standing =
       subst (λ (f : FileId). KeptOrNot (Stands (c f)) t.content.batches t.content.standing) (topic_at v.limits 1 v.topics (p - 1) (some_topic v) p found.0 found.1 is.topics).key (one.each c at) in
       subst (λ (es : List TopicEntry). StandsForEither IsBareRecord (c (ledger_file p)) es (list_at (flights_from 1 v.topics) p)) (sym (list_in 1 v.topics (p - 1) (some_topic v) p found.0 found.1))

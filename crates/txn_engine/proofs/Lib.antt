@@ -37,3 +37,4 @@ pub mod Growing
 pub mod OpeningTopic
 pub mod OpeningLog
 pub mod OpeningAll
+pub mod Tidy

@@ -8,13 +8,13 @@ use Rattle.txn_base.specs.declared.file_id.FileId.{FileId}
 use Rattle.txn_base.specs.declared.entry.TopicEntry.{TopicEntry}
 use Rattle.txn_base.specs.declared.txn.TxnId.{TxnId}
 use Rattle.txn_base.specs.declared.txn.Decision.{Decision}
-use Rattle.txn_base.specs.Content.{settled, Appends, Backed}
+use Rattle.txn_base.specs.Content.{settled, Appends}
 use Rattle.txn_base.specs.Disk.{Elsewhere, CountsFaults}
 use Rattle.txn_base.specs.Outside.{Rose}
 use Rattle.txn_base.specs.Records.{IsTxnId}
 use Rattle.txn_buffer.specs.View as topic
 use Rattle.txn_buffer.specs.View.{TopicView, topic_batch, with_entries}
-use Rattle.txn_ledger.specs.Ledger.{IsFile, StandsIn}
+use Rattle.txn_ledger.specs.Ledger.{IsFile, StandsIn, Stored}
 use Rattle.txn_model.specs.Coord.{decision_of}
 use Rattle.txn_model.specs.Skeletons.{coord_skeletons, topic_skeletons}
 use Rattle.txn_model.specs.Table.{TableState, marker_batch, marked, with_failed_batch}
@@ -171,7 +171,7 @@ module _ (v : EngineView) (is : IsEngine v) (w : EngineView) (view : v ≡ w) (w
     -- ---- How it goes on.
 
     module _ {D : Type 0} (on : Ghosts D) (old new : D) (backed : IsBacked (on.image old) v) (still : same → new ≡ old)
-        (tie : topic.IsFrontOf t → topic.IsFrontOf t') (here : Backed StandsIn (on.image new) t'.content) (since : After on (Appends IsFile StandsIn t.content (topic_batch es)) old new) (others : Elsewhere t.content.key (on.seen old) (on.seen new))
+        (tie : topic.IsFrontOf t → topic.IsFrontOf t') (here : Stored (on.image new) t'.content) (since : After on (Appends IsFile StandsIn t.content (topic_batch es)) old new) (others : Elsewhere t.content.key (on.seen old) (on.seen new))
         (cause : FaultsIn on t.content.key.part old new (IsErr r)) where
       follows_goes : marker_of (topic_skeletons t.front) x ≡ None → EngineGoesOn on (IsErr r) v u old new
       follows_goes m =
@@ -215,7 +215,7 @@ module _ (v : EngineView) (is : IsEngine v) (w : EngineView) (view : v ≡ w) (w
     rose_clause f g fs gs cause = on_err r (RoseFor f g fs gs (1 + j)) (λ err. subst (λ (k : FileId). Rose f g × Rose (fs k.part) (gs k.part)) one.key (cause.failed err))
 
     pub goes_clause : {D : Type 0} (on : Ghosts D) (old new : D) → IsBacked (on.image old) w → (same → new ≡ old)
-        → (topic.IsFrontOf t → topic.IsFrontOf t') → Backed StandsIn (on.image new) t'.content → After on (Appends IsFile StandsIn t.content (topic_batch es)) old new → Elsewhere t.content.key (on.seen old) (on.seen new)
+        → (topic.IsFrontOf t → topic.IsFrontOf t') → Stored (on.image new) t'.content → After on (Appends IsFile StandsIn t.content (topic_batch es)) old new → Elsewhere t.content.key (on.seen old) (on.seen new)
         → FaultsIn on t.content.key.part old new (IsErr r) → EngineGoesOn on (IsErr r) w u' old new
     goes_clause on old new backed still tie here since others cause =
         subst (λ (z : EngineView). EngineGoesOn on (IsErr r) z u' old new) view

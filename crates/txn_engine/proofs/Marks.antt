@@ -4,10 +4,10 @@ use Rattle.std.proofs.Math.ListN.{get_or}
 use Rattle.std.proofs.lemmas.Bool.Decides.{nat_tests}
 use Rattle.txn_base.specs.declared.disk.Disk.{Ghosts}
 use Rattle.txn_base.specs.Moves.{After}
-use Rattle.txn_base.specs.Content.{LedgerContent, settled, Appends, Backed}
+use Rattle.txn_base.specs.Content.{LedgerContent, settled, Appends}
 use Rattle.txn_base.specs.Frames.{Batch as FrameBatch}
 use Rattle.txn_base.proofs.Laws.{started}
-use Rattle.txn_ledger.specs.Ledger.{IsFile, StandsIn}
+use Rattle.txn_ledger.specs.Ledger.{IsFile, StandsIn, Stored}
 use Rattle.txn_base.specs.Names.{is_sub, is_topic_name}
 use Rattle.txn_base.specs.Records.{IsTxnId}
 use Rattle.txn_base.specs.declared.entry.TopicEntry.{TopicEntry}
@@ -46,7 +46,7 @@ entry_is x Abort = refl
 -- ---- A ledger to which nothing is added.
 
 module _ {D : Type 0} (on : Ghosts D) where
-  pub appends_nothing : (content : LedgerContent) (batch : FrameBatch) (disk : D) → content.standing ≡ settled → Backed StandsIn (on.image disk) content → After on (Appends IsFile StandsIn content batch) disk disk
+  pub appends_nothing : (content : LedgerContent) (batch : FrameBatch) (disk : D) → content.standing ≡ settled → Stored (on.image disk) content → After on (Appends IsFile StandsIn content batch) disk disk
   appends_nothing content batch disk is backed =
       started on disk (Appends IsFile StandsIn content batch)
       (λ c at. record { here = inl (stands_settled (StandsIn content.key c) content.batches content.standing is (backed.each c at)); others = λ other not. refl })

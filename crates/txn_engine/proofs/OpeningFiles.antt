@@ -1,21 +1,21 @@
 -- What opening leaves of files, and the counts of faults.
-use Rattle.std.proofs.Common.{◌≡◌, ◌⊎◌, ⊎_elim, inl, inr, ℕ, ◌≤◌, true, false, List, [], ◌∷◌, ◌++◌, All, sym, ap, ◌∙◌, subst, arith}
+use Rattle.std.proofs.Common.{◌≡◌, ◌⊎◌, ⊎_elim, inl, inr, ℕ, ◌≤◌, true, false, List, [], ◌∷◌, ◌++◌, All, refl, sym, ap, ◌∙◌, subst, arith}
 use Rattle.std.specs.Prelude.{eqb}
 use Rattle.std.proofs.lemmas.Bool.Decides.{eqb_tells}
 use Rattle.std.proofs.lemmas.List.Elements.{All-head, All-tail, All-cons, All-nil}
 use Rattle.txn_base.specs.declared.disk.Disk.{Ghosts}
 use Rattle.txn_base.specs.Moves.{After}
 use Rattle.txn_base.specs.declared.file_id.FileId.{FileId}
-use Rattle.txn_base.specs.Content.{LedgerContent, Standing, settled, in_flight, looked_at, KeptOrNot, Backed, Settles}
+use Rattle.txn_base.specs.Content.{LedgerContent, Standing, settled, in_flight, looked_at, KeptOrNot, Settles}
 use Rattle.txn_base.specs.Disk.{Files, Elsewhere, Changes, CountsFaults}
 use Rattle.txn_base.specs.Frames.{Batch, Stands, IsDamagedAt}
 use Rattle.txn_base.specs.Outside.{Rose}
-use Rattle.txn_base.proofs.Laws.{goes_on, weaker, stands_one, stands_not_damaged}
-use Rattle.txn_ledger.specs.Found.{KeepsList, KeepsDamaged}
-use Rattle.txn_ledger.specs.Ledger.{IsFile, StandsIn}
+use Rattle.txn_base.proofs.Laws.{goes_on, weaker, settled_stands, stands_not_damaged}
+use Rattle.txn_ledger.specs.Found.{KeepsDamaged, KeepsFile}
+use Rattle.txn_ledger.specs.Ledger.{IsFile, StandsIn, ExactlyIn, Stored}
 use Rattle.txn_model.specs.Sound.{ledger_file, part_file, StandsForEntries}
 use Rattle.txn_buffer.specs.View.{TopicView}
-use Rattle.txn_engine.specs.Opening.{KeepsLists, KeepsAllDamaged, KeepsWorld}
+use Rattle.txn_engine.specs.Opening.{KeepsFiles, KeepsAllDamaged, KeepsWorld}
 
 -- ---- One file changes.
 
@@ -27,10 +27,20 @@ same_or_not a b = parts (eqb_tells a.part b.part) (eqb_tells a.row b.row)
     parts (inr p) r = inr (λ e. p.1 (ap (λ (f : FileId). f.part) e))
     parts (inl p) (inr r) = inr (λ e. r.1 (ap (λ (f : FileId). f.row) e))
 
-pub keeps_all : (key : FileId) (d c : Files) → Changes key KeepsList d c → KeepsLists d c
+pub keeps_itself : (bytes : List ℕ) → KeepsFile bytes bytes
+keeps_itself bytes = record { list = λ batches stands. stands; damage = λ entry damaged. refl; just = λ batches each just. refl }
+
+pub file_then : (x y z : List ℕ) → KeepsFile x y → KeepsFile y z → KeepsFile x z
+file_then x y z one two = record {
+  list = λ batches stands. two.list batches (one.list batches stands);
+  damage = λ entry damaged. (let same = one.damage entry damaged in two.damage entry (subst (λ (l : List ℕ). IsDamagedAt l entry) (sym same) damaged) ∙ same);
+  just = λ batches each just. (let same = one.just batches each just in two.just batches each (same ∙ just) ∙ same);
+}
+
+pub keeps_all : (key : FileId) (d c : Files) → Changes key KeepsFile d c → KeepsFiles d c
 keeps_all key d c is file = ⊎_elim
-    (λ same. subst (λ (f : FileId). KeepsList (d f) (c f)) (sym same) is.here)
-    (λ apart. subst (KeepsList (d file)) (sym (is.others file apart)) (λ batches stands. stands))
+    (λ same. subst (λ (f : FileId). KeepsFile (d f) (c f)) (sym same) is.here)
+    (λ apart. subst (KeepsFile (d file)) (sym (is.others file apart)) (keeps_itself (d file)))
     (same_or_not file key)
 
 pub same_file_stands : (c : Files) (key file : FileId) (batches : List Batch) → key ≡ file → Stands (c key) batches → Stands (c file) batches
@@ -61,61 +71,62 @@ pub stands_here : (P : List Batch → Type 0) (batches : List Batch) (s : Standi
 stands_here P batches s is here = subst (KeptOrNot P batches) is here
 
 module _ {D : Type 0} (on : Ghosts D) where
-  pub mended_keeps : (key : FileId) (content : LedgerContent) (old mid new : D) → content.key ≡ key → content.standing ≡ settled → Backed StandsIn (on.image mid) content
-      → After on (Changes key KeepsList) old mid → After on (Settles IsFile StandsIn content) mid new
-      → After on (Changes key KeepsList) old new
+  pub mended_keeps : (key : FileId) (content : LedgerContent) (old mid new : D) → content.key ≡ key → content.standing ≡ settled → Stored (on.image mid) content
+      → After on (Changes key KeepsFile) old mid → After on (Settles IsFile StandsIn content) mid new
+      → After on (Changes key KeepsFile) old new
   mended_keeps key content old mid new key_is settled_is backed so_far call =
-      goes_on on (Changes key KeepsList) (Settles IsFile StandsIn content) (Changes key KeepsList) old mid new so_far call
+      goes_on on (Changes key KeepsFile) (Settles IsFile StandsIn content) (Changes key KeepsFile) old mid new so_far call
       (λ d c at one. one) (λ d e c at one mid_at two. further d e c one mid_at two)
     where
-      further : (d e c : Files) → Changes key KeepsList d e → on.image mid e → Settles IsFile StandsIn content e c → Changes key KeepsList d c
-      further d e c one at two = record {
-        here = λ batches stands.
-            let before : Stands (e key) content.batches = same_file_stands e content.key key content.batches key_is (stands_here (StandsIn content.key e) content.batches content.standing settled_is (backed.each e at)) in
-            let after : Stands (c key) content.batches = same_file_stands c content.key key content.batches key_is (stands_here (StandsIn content.key c) content.batches content.standing settled_is two.here) in
-            subst (Stands (c key)) (stands_one (e key) content.batches batches before (one.here batches stands)) after;
-        others = λ other ne. two.others other (λ same. ne (same ∙ key_is)) ∙ one.others other ne;
-      }
+      further : (d e c : Files) → Changes key KeepsFile d e → on.image mid e → Settles IsFile StandsIn content e c → Changes key KeepsFile d c
+      further d e c one at two = subst (λ (f : Files). Changes key KeepsFile d f) (sym (two.quiet settled_is)) one
 
   -- ---- Each file keeps its list.
 
-  pub keeps_of : (key : FileId) (old new : D) → After on (Changes key KeepsList) old new → After on KeepsLists old new
-  keeps_of key old new since = weaker on (Changes key KeepsList) KeepsLists old new (λ d c at is. keeps_all key d c is) since
+  pub keeps_of : (key : FileId) (old new : D) → After on (Changes key KeepsFile) old new → After on KeepsFiles old new
+  keeps_of key old new since = weaker on (Changes key KeepsFile) KeepsFiles old new (λ d c at is. keeps_all key d c is) since
 
-  pub keeps_then : (old mid new : D) → After on KeepsLists old mid → After on KeepsLists mid new → After on KeepsLists old new
-  keeps_then old mid new one two = goes_on on KeepsLists KeepsLists KeepsLists old mid new one two (λ d c at is. is) (λ d e c at first mid_at second file batches stands. second file batches (first file batches stands))
+  pub keeps_then : (old mid new : D) → After on KeepsFiles old mid → After on KeepsFiles mid new → After on KeepsFiles old new
+  keeps_then old mid new one two = goes_on on KeepsFiles KeepsFiles KeepsFiles old mid new one two (λ d c at is. is) (λ d e c at first mid_at second file. file_then (d file) (e file) (c file) (first file) (second file))
 
-  pub backed_kept : (content : LedgerContent) (old new : D) → After on KeepsLists old new → Backed StandsIn (on.image old) content → Backed StandsIn (on.image new) content
-  backed_kept content old new since backed = record { each = λ c at. let from = since.at_end c at in each_kept content.standing from.0 c from.2 (backed.each from.0 from.1) }
+  pub backed_kept : (content : LedgerContent) (old new : D) → After on KeepsFiles old new → Stored (on.image old) content → Stored (on.image new) content
+  backed_kept content old new since backed = record {
+    each = λ c at. let from = since.at_end c at in each_kept content.standing from.0 c from.2 (backed.each from.0 from.1);
+    exact = λ is c at.
+        let from = since.at_end c at in
+        let stands = settled_stands StandsIn ExactlyIn (on.image old) content is backed from.0 from.1 in
+        let just = backed.exact is from.0 from.1 in
+        (from.2 content.key).just content.batches stands.each just ∙ just;
+  }
     where
-      each_kept : (s : Standing) (d c : Files) → KeepsLists d c → KeptOrNot (StandsIn content.key d) content.batches s → KeptOrNot (StandsIn content.key c) content.batches s
-      each_kept settled d c keeps h = keeps content.key content.batches h
-      each_kept looked_at d c keeps h = keeps content.key content.batches h
-      each_kept (in_flight batch) d c keeps h = ⊎_elim (λ none. inl (keeps content.key content.batches none)) (λ more. inr (keeps content.key (content.batches ++ batch ∷ []) more)) h
+      each_kept : (s : Standing) (d c : Files) → KeepsFiles d c → KeptOrNot (StandsIn content.key d) content.batches s → KeptOrNot (StandsIn content.key c) content.batches s
+      each_kept settled d c keeps h = (keeps content.key).list content.batches h
+      each_kept looked_at d c keeps h = (keeps content.key).list content.batches h
+      each_kept (in_flight batch) d c keeps h = ⊎_elim (λ none. inl ((keeps content.key).list content.batches none)) (λ more. inr ((keeps content.key).list (content.batches ++ batch ∷ []) more)) h
 
-  pub topics_kept : (ts : List TopicView) (old new : D) → After on KeepsLists old new → All (λ t. Backed StandsIn (on.image old) t.content) ts → All (λ t. Backed StandsIn (on.image new) t.content) ts
-  topics_kept [] old new since all = All-nil (λ t. Backed StandsIn (on.image new) t.content)
+  pub topics_kept : (ts : List TopicView) (old new : D) → After on KeepsFiles old new → All (λ t. Stored (on.image old) t.content) ts → All (λ t. Stored (on.image new) t.content) ts
+  topics_kept [] old new since all = All-nil (λ t. Stored (on.image new) t.content)
   topics_kept (t ∷ ts) old new since all =
-      All-cons (λ t. Backed StandsIn (on.image new) t.content) t ts
-      (backed_kept t.content old new since (All-head (λ t. Backed StandsIn (on.image old) t.content) t ts all)) (topics_kept ts old new since (All-tail (λ t. Backed StandsIn (on.image old) t.content) t ts all))
+      All-cons (λ t. Stored (on.image new) t.content) t ts
+      (backed_kept t.content old new since (All-head (λ t. Stored (on.image old) t.content) t ts all)) (topics_kept ts old new since (All-tail (λ t. Stored (on.image old) t.content) t ts all))
 
   -- ---- The files stand for the world for which they stood.
 
-  entries_kept : {E : Type 0} (is : List ℕ → E → Type 0) (before after : List ℕ) (es : List E) → KeepsList before after → StandsForEntries is before es → StandsForEntries is after es
-  entries_kept is before after es keeps was = record { batches = was.batches; stands = keeps was.batches was.stands; each = was.each }
+  entries_kept : {E : Type 0} (is : List ℕ → E → Type 0) (before after : List ℕ) (es : List E) → KeepsFile before after → StandsForEntries is before es → StandsForEntries is after es
+  entries_kept is before after es keeps was = record { batches = was.batches; stands = keeps.list was.batches was.stands; each = was.each }
 
-  world_kept : (names : List (List ℕ)) (d c : Files) → KeepsLists d c → KeepsWorld names d c
+  world_kept : (names : List (List ℕ)) (d c : Files) → KeepsFiles d c → KeepsWorld names d c
   world_kept names d c keeps w was = record {
     named = was.named;
     shaped = was.shaped;
     coord = entries_kept _ _ _ w.coord (keeps (ledger_file 0)) was.coord;
     topics = λ p h. entries_kept _ _ _ _ (keeps (ledger_file p)) (was.topics p h);
     subs = λ p h. entries_kept _ _ _ _ (keeps (ledger_file p)) (was.subs p h);
-    others = λ p row above most few. keeps (part_file p row) [] (was.others p row above most few);
+    others = λ p row above most few. (keeps (part_file p row)).list [] (was.others p row above most few);
   }
 
-  pub worlds_kept : (names : List (List ℕ)) (old new : D) → After on KeepsLists old new → After on (KeepsWorld names) old new
-  worlds_kept names old new since = weaker on KeepsLists (KeepsWorld names) old new (λ d c at keeps. world_kept names d c keeps) since
+  pub worlds_kept : (names : List (List ℕ)) (old new : D) → After on KeepsFiles old new → After on (KeepsWorld names) old new
+  worlds_kept names old new since = weaker on KeepsFiles (KeepsWorld names) old new (λ d c at keeps. world_kept names d c keeps) since
 
 -- ---- Counts of one part.
 

@@ -23,6 +23,7 @@ use Rattle.txn_engine.proofs.Whole.{coord_front}
 pub record IsOpeningLog (limits : Limits) (n : ℕ) (v : CoordView) : Type 0 where
   pub key : v.content.key ≡ ledger_file 0
   pub limits_are : v.limits ≡ limits
+  pub named_is : v.named ≡ n
   pub settled_is : v.content.standing ≡ settled
   pub lawful : CoordLawful n (coord_skeletons v.front)
   pub within : length v.front ≤ coord_total v
@@ -73,6 +74,7 @@ module _ (limits : Limits) (n : ℕ) (v w : CoordView) (is : IsOpeningLog limits
   opening_step = record {
     key = ap (λ (k : LedgerContent). k.key) same ∙ is.key;
     limits_are = step.limits ∙ is.limits_are;
+    named_is = step.named ∙ is.named_is;
     settled_is = ap (λ (k : LedgerContent). k.standing) same ∙ is.settled_is;
     lawful = lawful;
     within = omega (arith, step.grows);
@@ -106,7 +108,7 @@ fewer limits n v w is going step some =
 -- ---- All of it.
 
 pub opened_log : (limits : Limits) (n : ℕ) (v : CoordView) → IsOpeningLog limits n v → IsCoordinator limits n v
-opened_log limits n v is = record { key = is.key; limits_are = is.limits_are; lawful = is.lawful; settled_is = λ whole. is.settled_is; all = is.all }
+opened_log limits n v is = record { key = is.key; limits_are = is.limits_are; named_is = is.named_is; lawful = is.lawful; settled_is = λ whole. is.settled_is; all = is.all }
 
 pub opening_is_log : (limits : Limits) (n : ℕ) (v : CoordView) (bytes : List ℕ) → IsOpeningLog limits n v → IsTrue v.whole → IsToldLog n bytes v → IsCoordinatorOf n v bytes
 opening_is_log limits n v bytes is whole told = record {

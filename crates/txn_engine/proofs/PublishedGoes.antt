@@ -8,10 +8,10 @@ use Rattle.txn_base.specs.declared.limits.Limits.{Limits}
 use Rattle.txn_base.specs.declared.request.Request.TheVariants as request
 use Rattle.txn_base.specs.declared.reply.Reply.TheVariants as reply
 use Rattle.txn_base.specs.declared.txn.TxnId.{TxnId}
-use Rattle.txn_base.specs.Content.{Appends, Backed}
+use Rattle.txn_base.specs.Content.{Appends}
 use Rattle.txn_base.specs.Disk.{Elsewhere}
 use Rattle.txn_base.specs.Frames.{records}
-use Rattle.txn_ledger.specs.Ledger.{IsFile, StandsIn}
+use Rattle.txn_ledger.specs.Ledger.{IsFile, StandsIn, Stored}
 use Rattle.txn_buffer.specs.Adding.{messages_of, IsUnmarked}
 use Rattle.txn_buffer.specs.View as buffer
 use Rattle.txn_buffer.specs.View.{TopicView, topic_batch, topic_total, with_entries}
@@ -69,7 +69,7 @@ module _ {D : Type 0} (on : Ghosts D) (v : EngineView) (is : IsEngine v) (whole 
       subst (λ (d : D). EngineGoesOn on X v later old d) (sym disk)
       (subst (λ (u : EngineView). EngineGoesOn on X v u old old) (sym (put_back v (p - 1) t t' at same)) (goes_still on X none v v old whole backed refl refl refl))
 
-  changed : (X Y : Type 0) → (v.limits.log < topic_total t + length bodies → ⊥) → RecordsOf IsBareRecord (records (topic_batch entries ∷ [])) entries → IsTrue t'.whole ⊎ X → (buffer.IsFrontOf t → buffer.IsFrontOf t') → Backed StandsIn (on.image new) t'.content
+  changed : (X Y : Type 0) → (v.limits.log < topic_total t + length bodies → ⊥) → RecordsOf IsBareRecord (records (topic_batch entries ∷ [])) entries → IsTrue t'.whole ⊎ X → (buffer.IsFrontOf t → buffer.IsFrontOf t') → Stored (on.image new) t'.content
       → After on (Appends IsFile StandsIn t.content (topic_batch entries)) old new → Elsewhere t.content.key (on.seen old) (on.seen new) → FaultsIn on t.content.key.part old new Y → (X → Y) → EngineGoesOn on X v later old new
   changed X Y room each now tie here since others cause means =
       let here_is : t ≡ get_or v.topics (p - 1) (some_topic v) = sym at in
@@ -80,7 +80,7 @@ module _ {D : Type 0} (on : Ghosts D) (v : EngineView) (is : IsEngine v) (whole 
       (subst (λ (u : TopicView). FaultsIn on u.content.key.part old new Y) here_is cause) means
 
   pub published_goes : (result : Result ℕ TopicError) (count : ℕ) → IsAfter t t' entries result → ((result ≡ Err (topic_error.Full (topic_total t))) ↔ (v.limits.log < topic_total t + length bodies)) → RecordsOf IsBareRecord (records (topic_batch entries ∷ [])) entries → ((n : ℕ) → result ≡ Err (topic_error.Full n) → new ≡ old)
-      → (result ≡ Err topic_error.NoMemory → new ≡ old) → (buffer.IsFrontOf t → buffer.IsFrontOf t') → Backed StandsIn (on.image new) t'.content
+      → (result ≡ Err topic_error.NoMemory → new ≡ old) → (buffer.IsFrontOf t → buffer.IsFrontOf t') → Stored (on.image new) t'.content
       → After on (Appends IsFile StandsIn t.content (topic_batch entries)) old new → Elsewhere t.content.key (on.seen old) (on.seen new) → FaultsIn on t.content.key.part old new (result ≡ Err topic_error.Fault)
       → EngineGoesOn on (is_fault (publish_reply topic count result) ≡ true) v later old new
   published_goes (Ok place) count is_after full each unwritten memory tie here since others cause =

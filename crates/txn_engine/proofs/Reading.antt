@@ -13,11 +13,11 @@ use Rattle.txn_base.specs.declared.request.Request.TheVariants as request
 use Rattle.txn_base.specs.declared.reply.Reply.{Reply}
 use Rattle.txn_base.specs.declared.reply.Reply.TheVariants as reply
 use Rattle.txn_base.specs.declared.reply.Refusal.TheVariants as no
-use Rattle.txn_base.specs.Content.{LedgerContent, KeptOrNot, Backed}
+use Rattle.txn_base.specs.Content.{LedgerContent, KeptOrNot}
 use Rattle.txn_base.specs.Disk.{Files, Same}
 use Rattle.txn_base.specs.Outside.{Rose}
-use Rattle.txn_base.proofs.Laws.{weaker}
-use Rattle.txn_ledger.specs.Ledger.{StandsIn}
+use Rattle.txn_base.proofs.Laws.{weaker, same_backed}
+use Rattle.txn_ledger.specs.Ledger.{StandsIn, ExactlyIn, Stored}
 use Rattle.txn_model.specs.Answers.{Answers}
 use Rattle.txn_model.specs.Names.{part_of}
 use Rattle.txn_model.specs.Sound.{ledger_file}
@@ -57,8 +57,8 @@ is_topic_at v is j t below at = subst (IsTopic v.limits (1 + j)) at (topic_at v.
 pub tied_at : (v : EngineView) (topic : List ℕ) (p j : ℕ) → Knows v topic p j → (t : TopicView) → t ≡ get_or v.topics j t → IsTied v → IsFrontOf t
 tied_at v topic p j found t e tied = subst IsFrontOf (at_known v topic p j found t e) (at_index IsFrontOf v.topics j (some_topic v) found.below tied.topics)
 
-pub backed_at : (image : Files → Type 0) (v : EngineView) (topic : List ℕ) (p j : ℕ) → Knows v topic p j → (t : TopicView) → t ≡ get_or v.topics j t → IsBacked image v → Backed StandsIn image t.content
-backed_at image v topic p j found t e backed = subst (λ (u : TopicView). Backed StandsIn image u.content) (at_known v topic p j found t e) (at_index (λ t. Backed StandsIn image t.content) v.topics j (some_topic v) found.below backed.topics)
+pub backed_at : (image : Files → Type 0) (v : EngineView) (topic : List ℕ) (p j : ℕ) → Knows v topic p j → (t : TopicView) → t ≡ get_or v.topics j t → IsBacked image v → Stored image t.content
+backed_at image v topic p j found t e backed = subst (λ (u : TopicView). Stored image u.content) (at_known v topic p j found t e) (at_index (λ t. Stored image t.content) v.topics j (some_topic v) found.below backed.topics)
 
 pub known_name : (v : EngineView) → IsEngine v → (topic : List ℕ) (p : ℕ) (named : List ℕ) → part_of v.names topic ≡ Some p → named ≡ topic → IsPartName named
 known_name v is topic p named known same = subst IsPartName (sym same) (part_name topic (knows v is topic p known).form)
@@ -107,16 +107,11 @@ module _ (v : EngineView) (is : IsEngine v) (whole : IsWhole v) (tied : IsTied v
 -- ---- Nothing changes.
 
 module _ {D : Type 0} (on : Ghosts D) (old new : D) (since : After on Same old new) where
-  same_backed : (k : LedgerContent) → Backed StandsIn (on.image old) k → Backed StandsIn (on.image new) k
-  same_backed k backed = record {
-    each = λ c at. let from = since.at_end c at in subst (λ (files : Files). KeptOrNot (StandsIn k.key files) k.batches k.standing) (sym from.2) (backed.each from.0 from.1);
-  }
-
-  topics_same_backed : (ts : List TopicView) → All (λ t. Backed StandsIn (on.image old) t.content) ts → All (λ t. Backed StandsIn (on.image new) t.content) ts
-  topics_same_backed [] backed = All-nil (λ t. Backed StandsIn (on.image new) t.content)
+  topics_same_backed : (ts : List TopicView) → All (λ t. Stored (on.image old) t.content) ts → All (λ t. Stored (on.image new) t.content) ts
+  topics_same_backed [] backed = All-nil (λ t. Stored (on.image new) t.content)
   topics_same_backed (t ∷ ts) backed =
-      All-cons (λ t. Backed StandsIn (on.image new) t.content) t ts (same_backed t.content (All-head (λ t. Backed StandsIn (on.image old) t.content) t ts backed))
-      (topics_same_backed ts (All-tail (λ t. Backed StandsIn (on.image old) t.content) t ts backed))
+      All-cons (λ t. Stored (on.image new) t.content) t ts (same_backed StandsIn ExactlyIn on old new t.content since (All-head (λ t. Stored (on.image old) t.content) t ts backed))
+      (topics_same_backed ts (All-tail (λ t. Stored (on.image old) t.content) t ts backed))
 
   pub read_goes : on.seen new ≡ on.seen old → (v : EngineView) → IsEngine v → IsWhole v → IsBacked (on.image old) v → (topic : List ℕ) (p : ℕ) → part_of v.names topic ≡ Some p → (t : TopicView) → IsTopicAt v (p - 1) t → (X Y : Type 0)
       → FaultsIn on t.content.key.part old new Y → (X → Y) → EngineGoesOn on X v v old new
@@ -127,7 +122,7 @@ module _ {D : Type 0} (on : Ghosts D) (old new : D) (since : After on Same old n
         names = refl;
         whole = inl whole;
         tied = λ was. was;
-        backed = record { coord = same_backed v.coord.content backed.coord; topics = topics_same_backed v.topics backed.topics };
+        backed = record { coord = same_backed StandsIn ExactlyIn on old new v.coord.content since backed.coord; topics = topics_same_backed v.topics backed.topics };
         images = weaker on Same (KeepsAboveIf (IsTied v) v.names) old new (λ d c here same was floor above. subst (StandsAbove v.names floor) (sym same) above) since;
         grows = files_same on old new since;
         worlds = worlds_same on v.names old new since;

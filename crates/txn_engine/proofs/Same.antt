@@ -9,7 +9,6 @@ use Rattle.txn_base.specs.declared.request.Request.{Request}
 use Rattle.txn_base.specs.declared.reply.Reply.{Reply}
 use Rattle.txn_base.specs.declared.reply.Reply.TheVariants as reply
 use Rattle.txn_base.specs.declared.reply.Refusal.TheVariants as no
-use Rattle.txn_base.specs.Content.{Backed}
 use Rattle.txn_base.specs.Decoded.{coord_entries, topic_entries}
 use Rattle.txn_base.specs.Disk.{Files}
 use Rattle.txn_base.proofs.Laws.{started}
@@ -20,7 +19,7 @@ use Rattle.txn_buffer.specs.View as topic
 use Rattle.txn_buffer.specs.View.{TopicView}
 use Rattle.txn_coordinator.specs.View as coordinator
 use Rattle.txn_coordinator.specs.View.{CoordView}
-use Rattle.txn_ledger.specs.Ledger.{StandsIn}
+use Rattle.txn_ledger.specs.Ledger.{Stored}
 use Rattle.txn_model.specs.Answers.{AnswersAt}
 use Rattle.txn_model.specs.Names.{NamesLawful}
 use Rattle.txn_model.specs.Table.{TableState}
@@ -136,8 +135,8 @@ module _ (v v' : EngineView) (same : IsSameBut v v') where
 
   pub same_backed : (image : Files → Type 0) → IsBacked image v → IsBacked image v'
   same_backed image backed = record {
-    coord = subst (λ (c : CoordView). Backed StandsIn image c.content) (sym same.coord) backed.coord;
-    topics = all_same (λ t. Backed StandsIn image t.content) (λ t n h. h) v.topics v'.topics same.topics backed.topics;
+    coord = subst (λ (c : CoordView). Stored image c.content) (sym same.coord) backed.coord;
+    topics = all_same (λ t. Stored image t.content) (λ t n h. h) v.topics v'.topics same.topics backed.topics;
   }
 
   pub same_engine : IsEngine v → IsEngine v'

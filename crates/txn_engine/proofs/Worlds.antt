@@ -5,13 +5,13 @@ use Rattle.std.proofs.lemmas.List.Elements.{All-head, All-tail, All-cons, All-ni
 use Rattle.txn_base.specs.declared.entry.CoordEntry.{CoordEntry}
 use Rattle.txn_base.specs.declared.entry.TopicEntry.{TopicEntry}
 use Rattle.txn_base.specs.declared.file_id.FileId.{FileId}
-use Rattle.txn_base.specs.Content.{Standing, settled, KeptOrNot, Backed}
+use Rattle.txn_base.specs.Content.{Standing, settled, KeptOrNot}
 use Rattle.txn_base.specs.Decoded.{coord_entry_of, topic_entry_of, coord_entries}
 use Rattle.txn_base.specs.Disk.{Files}
 use Rattle.txn_base.specs.Frames.{Batch, Stands}
 use Rattle.txn_base.specs.Names.{is_sub, is_topic_name}
 use Rattle.txn_base.specs.Records.{IsCoordRecord}
-use Rattle.txn_ledger.specs.Ledger.{StandsIn}
+use Rattle.txn_ledger.specs.Ledger.{StandsIn, Stored}
 use Rattle.txn_model.specs.declared.world.World.{World}
 use Rattle.txn_model.specs.Shape.{numbered, is_topic, topic_parts, sub_parts, parts_with, Shaped}
 use Rattle.txn_model.specs.Sound.{ledger_file, StandsForEntries, IsBareRecord, StandsFor}
@@ -125,9 +125,9 @@ stands_settled P batches s e h = subst (KeptOrNot P batches) e h
 pub coord_backed : (v : EngineView) → IsEngine v → IsWhole v → (image : Files → Type 0) → IsBacked image v → (c : Files) → image c → StandsIn v.coord.content.key c v.coord.content.batches
 coord_backed v is whole image backed c at = stands_settled (StandsIn v.coord.content.key c) v.coord.content.batches v.coord.content.standing (is.coord.settled_is whole.coord) (backed.coord.each c at)
 
-pub topics_backed : (k : ℕ) (ts : List TopicView) → All (λ t. t.content.standing ≡ settled) ts → (image : Files → Type 0) → All (λ t. Backed StandsIn image t.content) ts → (c : Files) → image c → AllStand c ts
+pub topics_backed : (k : ℕ) (ts : List TopicView) → All (λ t. t.content.standing ≡ settled) ts → (image : Files → Type 0) → All (λ t. Stored image t.content) ts → (c : Files) → image c → AllStand c ts
 topics_backed k [] all image backed c at = All-nil (λ t. StandsIn t.content.key c t.content.batches)
 topics_backed k (t ∷ ts) all image backed c at =
     All-cons (λ t. StandsIn t.content.key c t.content.batches) t ts
-    (stands_settled (StandsIn t.content.key c) t.content.batches t.content.standing (All-head (λ t. t.content.standing ≡ settled) t ts all) ((All-head (λ t. Backed StandsIn image t.content) t ts backed).each c at))
-    (topics_backed (suc k) ts (All-tail (λ t. t.content.standing ≡ settled) t ts all) image (All-tail (λ t. Backed StandsIn image t.content) t ts backed) c at)
+    (stands_settled (StandsIn t.content.key c) t.content.batches t.content.standing (All-head (λ t. t.content.standing ≡ settled) t ts all) ((All-head (λ t. Stored image t.content) t ts backed).each c at))
+    (topics_backed (suc k) ts (All-tail (λ t. t.content.standing ≡ settled) t ts all) image (All-tail (λ t. Stored image t.content) t ts backed) c at)

@@ -18,6 +18,7 @@ use Rattle.txn_engine.specs.View.{EngineView}
 pub record IsCoordinator (limits : Limits) (n : ℕ) (v : CoordView) : Type 0 where
   pub key : v.content.key ≡ ledger_file 0
   pub limits_are : v.limits ≡ limits
+  pub named_is : v.named ≡ n
   pub lawful : CoordLawful n (coord_skeletons v.front)
   pub settled_is : IsTrue v.whole → v.content.standing ≡ settled
   pub all : IsTrue v.whole → length v.front ≡ coordinator.coord_total v

@@ -12,7 +12,7 @@ use Rattle.txn_buffer.specs.View as topic
 use Rattle.txn_buffer.specs.View.{TopicView}
 use Rattle.txn_coordinator.specs.View as coordinator
 use Rattle.txn_coordinator.specs.View.{CoordView}
-use Rattle.txn_ledger.specs.Found.{KeepsList, KeepsDamaged}
+use Rattle.txn_ledger.specs.Found.{KeepsDamaged, KeepsFile}
 use Rattle.txn_model.specs.declared.world.World.{World}
 use Rattle.txn_model.specs.Coord.{CoordLawful, coord_allows}
 use Rattle.txn_model.specs.Skeletons.{coord_skeleton, coord_skeletons}
@@ -86,9 +86,9 @@ pub record IsFirstDamagedTopic (n : ℕ) (tells : Type 0) (files : Files) (file 
   pub damaged : tells → IsDamagedTopic (files (ledger_file part)) entry
   pub before : tells → (p : ℕ) → 1 ≤ p → p < part → IsTopicLedger (files (ledger_file p))
 
--- What each file before stands for, the same file after does.
-abbrev pub KeepsLists : Files → Files → Type 0
-KeepsLists before after = (file : FileId) → KeepsList (before file) (after file)
+-- Each file stands for what it stood for; a damaged one stays as it was, and so does one that is just frames.
+abbrev pub KeepsFiles : Files → Files → Type 0
+KeepsFiles before after = (file : FileId) → KeepsFile (before file) (after file)
 
 -- Each file in which an open gate begins no frame stays as it was.
 abbrev pub KeepsAllDamaged : Files → Files → Type 0

@@ -1,13 +1,12 @@
 -- What an engine is seen as.
 use Rattle.std.specs.Prelude.{ℕ, zero, suc, List, [], ◌∷◌, All, IsTrue}
 use Rattle.txn_base.specs.declared.limits.Limits.{Limits}
-use Rattle.txn_base.specs.Content.{Backed}
 use Rattle.txn_base.specs.Disk.{Files}
 use Rattle.txn_coordinator.specs.View as coordinator
 use Rattle.txn_coordinator.specs.View.{CoordView}
 use Rattle.txn_buffer.specs.View as topic
 use Rattle.txn_buffer.specs.View.{TopicView}
-use Rattle.txn_ledger.specs.Ledger.{StandsIn}
+use Rattle.txn_ledger.specs.Ledger.{Stored}
 
 -- The names of its parts, which are topics, numbered from 1; its coordinator; the topics, in order of their number; the
 -- greatest moment told; and the bounds.
@@ -43,5 +42,5 @@ pub record IsTied (v : EngineView) : Type 0 where
 
 -- Each image of a disk is as the ledgers tell.
 pub record IsBacked (image : Files → Type 0) (v : EngineView) : Type 0 where
-  pub coord : Backed StandsIn image v.coord.content
-  pub topics : All (λ t. Backed StandsIn image t.content) v.topics
+  pub coord : Stored image v.coord.content
+  pub topics : All (λ t. Stored image t.content) v.topics

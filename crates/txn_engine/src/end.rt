@@ -1,13 +1,13 @@
 //! The end of a transaction, in two phases: its decision is logged, then each of its parts gets its marker, and then it is
 //! closed.
 ghost use Rattle.std.specs.Prelude.{◌≡◌, ◌≤◌, ◌<◌, ◌+◌, ℕ, [], ◌∷◌, length, true, false, None, Some, is_none, is_some, slice_index_or, IsTrue, IsOk, IsErr, IfErr, IfSome, OnOk, OnErr, Err};
-ghost use Rattle.txn_base.specs.Content.{Backed, Appends, settled};
+ghost use Rattle.txn_base.specs.Content.{Appends, settled};
 ghost use Rattle.txn_base.specs.Disk.{Elsewhere};
 ghost use Rattle.txn_base.specs.Moves.{After, FaultsIn, RoseIn};
 ghost use Rattle.txn_base.specs.declared.reply.Reply.TheVariants as reply;
 ghost use Rattle.txn_base.specs.declared.reply.Why.TheVariants as why;
 ghost use Rattle.txn_buffer.specs.View.{TopicView, IsFrontOf, topic_batch, with_entries, with_failed_entries};
-ghost use Rattle.txn_ledger.specs.Ledger.{StandsIn, IsFile};
+ghost use Rattle.txn_ledger.specs.Ledger.{StandsIn, IsFile, Stored};
 ghost use Rattle.txn_records.specs.Topics.{marker_entry};
 ghost use Rattle.txn_engine.specs.Causes.{TellsEarly};
 ghost use Rattle.txn_engine.specs.Damage.{is_damage};
@@ -275,13 +275,13 @@ fn mark_topic<D: Disk>(
     requires whole { IsTrue topic.old.whole }
     requires reserved { topic.old.reserved ≡ 1 }
     requires settled { topic.old.content.standing ≡ settled }
-    requires backed { Backed StandsIn (D.image disk.old) topic.old.content }
+    requires backed { Stored (D.image disk.old) topic.old.content }
     ensures stood { is_some (marker_of (topic_skeletons topic.old.front) txn) ≡ true → IsOk result × (topic.new ≡ topic.old) × (disk.new ≡ disk.old) }
     ensures ok { OnOk result (marker_of (topic_skeletons topic.old.front) txn ≡ None → topic.new ≡ with_entries topic.old (marker_entry txn decision ∷ []) 0) }
     ensures stands { OnOk result (is_some (marker_of (topic_skeletons topic.new.front) txn) ≡ true) }
     ensures err { OnErr result ((marker_of (topic_skeletons topic.old.front) txn ≡ None) × (topic.new ≡ with_failed_entries topic.old (marker_entry txn decision ∷ []))) }
     ensures tied { IsFrontOf topic.old → IsFrontOf topic.new }
-    ensures backed { Backed StandsIn (D.image disk.new) topic.new.content }
+    ensures backed { Stored (D.image disk.new) topic.new.content }
     ensures images { After D.Disk (Appends IsFile StandsIn topic.old.content (topic_batch (marker_entry txn decision ∷ []))) disk.old disk.new }
     ensures others { Elsewhere topic.old.content.key (D.seen disk.old) (D.seen disk.new) }
     ensures cause { FaultsIn D.Disk topic.old.content.key.part disk.old disk.new (IsErr result) }

@@ -10,7 +10,7 @@ ghost use Rattle.txn_model.specs.Opening.{table_over};
 ghost use Rattle.txn_model.specs.Sound.{StandsFor};
 ghost use Rattle.txn_engine.specs.Files.{OnlyLedgers};
 ghost use Rattle.txn_engine.specs.Kept.{IsEngine};
-ghost use Rattle.txn_engine.specs.Opening.{AreParts, IsFirstDamage, IsPartFile, KeepsLists, KeepsAllDamaged, KeepsWorld};
+ghost use Rattle.txn_engine.specs.Opening.{AreParts, IsFirstDamage, IsPartFile, KeepsFiles, KeepsAllDamaged, KeepsWorld};
 ghost use Rattle.txn_engine.specs.Table.{table_of};
 ghost use Rattle.txn_engine.specs.Told.{FaultsWithin};
 ghost use Rattle.txn_engine.specs.View.{IsWhole, IsTied, IsBacked};
@@ -27,7 +27,7 @@ mod topics;
 mod unopened;
 
 /// Why the parts of a disk couldn't be opened.
-#[derive(Debug, Drop)]
+#[derive(Drop)]
 pub enum EngineError {
     /// A frame or a record of this file is outside its grammar, or its list isn't lawful by itself. A frame is told before
     /// any record.
@@ -67,7 +67,7 @@ impl Engine {
         ensures uncut { D.tells → KeepsAllDamaged (D.seen disk.old) (D.seen disk.new) }
 
         // What each file stood for, it stands for in each image at any moment since, whether another is damaged or not.
-        ensures lists { After D.Disk KeepsLists disk.old disk.new }
+        ensures lists { After D.Disk KeepsFiles disk.old disk.new }
         ensures images { After D.Disk (KeepsWorld names.items) disk.old disk.new }
 
         // No file but the ledgers of these parts changes, in each image at any moment since and as it reads.

@@ -3,13 +3,13 @@ ghost use Rattle.std.specs.Prelude.{◌≡◌, ◌⊎◌, ◌≤◌, ◌<◌, �
 ghost use Rattle.std.specs.Int.{bit_at};
 ghost use Rattle.std.specs.List.{list_any};
 ghost use Rattle.txn_base.specs.Bytes.{contents_of};
-ghost use Rattle.txn_base.specs.Content.{Backed, Appends};
+ghost use Rattle.txn_base.specs.Content.{Appends};
 ghost use Rattle.txn_base.specs.Disk.{Elsewhere};
 ghost use Rattle.txn_base.specs.Moves.{FaultsIn, RoseIn, After};
 ghost use Rattle.txn_base.specs.declared.request.Request.TheVariants as request;
 ghost use Rattle.txn_buffer.specs.Adding.{AreBodies, messages_of, IsUnmarked};
 ghost use Rattle.txn_buffer.specs.View.{IsFrontOf, topic_batch, topic_total, with_entries, with_failed_entries};
-ghost use Rattle.txn_ledger.specs.Ledger.{StandsIn, IsFile};
+ghost use Rattle.txn_ledger.specs.Ledger.{StandsIn, IsFile, Stored};
 ghost use Rattle.std.specs.Prelude.{◌-◌, slice_index_or};
 ghost use Rattle.txn_buffer.specs.View.{TopicView};
 ghost use Rattle.txn_engine.specs.Causes.{TellsEarly};
@@ -115,7 +115,7 @@ fn why_refusal(why: WhyNot, topic: &Text, room: TextRoom) -> Refusal
 }
 
 /// Why a publish in a transaction is refused.
-#[derive(Clone, Copy, Debug, PartialEq, Eq)]
+#[derive(Clone, Copy, PartialEq, Eq)]
 pub enum WhyNot {
     NotFound,
     NotOpen { status: Status },
@@ -166,7 +166,7 @@ fn add_messages<D: Disk>(
     requires whole { IsTrue topic.old.whole }
     requires unmarked { IsUnmarked topic.old.front txn }
     requires bodies { AreBodies topic.old.limits (contents_of bodies.now) }
-    requires backed { Backed StandsIn (D.image disk.old) topic.old.content }
+    requires backed { Stored (D.image disk.old) topic.old.content }
     ensures first { IfOk result (λ place. place ≡ topic_total topic.old) }
     ensures ok { OnOk result (topic.new ≡ with_entries topic.old (messages_of txn (contents_of bodies.now)) topic.old.reserved) }
     ensures full { (result ≡ Err (TopicError.Full (topic_total topic.old))) ↔ (topic.old.limits.log < topic_total topic.old + length bodies.now) }
@@ -176,7 +176,7 @@ fn add_messages<D: Disk>(
     ensures refused { (count : ℕ) → result ≡ Err (TopicError.Full count) → (topic.new ≡ topic.old) × (disk.new ≡ disk.old) }
     ensures no_memory { result ≡ Err TopicError.NoMemory → (topic.new ≡ topic.old) × (disk.new ≡ disk.old) }
     ensures tied { IsFrontOf topic.old → IsFrontOf topic.new }
-    ensures backed { Backed StandsIn (D.image disk.new) topic.new.content }
+    ensures backed { Stored (D.image disk.new) topic.new.content }
     ensures images { After D.Disk (Appends IsFile StandsIn topic.old.content (topic_batch (messages_of txn (contents_of bodies.now)))) disk.old disk.new }
     ensures others { Elsewhere topic.old.content.key (D.seen disk.old) (D.seen disk.new) }
     ensures cause { FaultsIn D.Disk topic.old.content.key.part disk.old disk.new (result ≡ Err TopicError.Fault) }

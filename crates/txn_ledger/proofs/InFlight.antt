@@ -4,13 +4,10 @@ use Rattle.std.proofs.lemmas.List.{drop_at, drop_more, append_assoc, append-nil}
 use Rattle.txn_base.specs.Disk.{OldOrResized}
 use Rattle.txn_base.specs.Frames.{Batch, IsBatch, frame, frames, behind_gate, Stands}
 use Rattle.txn_base.specs.Content.{Standing, settled, in_flight, looked_at, IsInFlight, KeptOrNot, with_flight}
+use Rattle.txn_ledger.specs.Gate.{IsFrameThere}
 use Rattle.txn_ledger.specs.Tied.{IsSent}
 use Rattle.txn_ledger.proofs.Behind.{shut_gate}
 use Rattle.txn_ledger.proofs.Frames.{frames-push, cut_is, closed_of_stands}
-
--- such a frame stands behind the end
-abbrev pub IsFrameThere : ℕ → ℕ → List ℕ → Type 0
-IsFrameThere end sent bytes = (end + sent ≤ length bytes) × (get_or bytes end 0 ≡ 1)
 
 module _ (batches : List Batch) (end sent : ℕ) (ends : end ≡ length (frames batches)) where
   kept_one : (flight : Batch) → IsBatch flight → sent ≡ length (frame flight) → (x : List ℕ) → Stands x batches ⊎ Stands x (batches ++ flight ∷ []) → IsFrameThere end sent x → Stands x (batches ++ flight ∷ [])

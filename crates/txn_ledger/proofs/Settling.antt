@@ -4,14 +4,17 @@ use Rattle.txn_base.specs.declared.disk.Disk.{Ghosts}
 use Rattle.txn_base.specs.Moves.{After}
 use Rattle.txn_base.specs.declared.file_id.FileId.{FileId}
 use Rattle.txn_base.specs.Disk.{Files, Same, Changes, OldOrResized, Only, resized}
-use Rattle.txn_base.specs.Frames.{frames, Stands}
-use Rattle.txn_base.specs.Content.{LedgerContent, kept, dropped, IsInFlight, KeptOrNot, Backed, Settles}
-use Rattle.txn_base.proofs.Laws.{weaker, goes_on}
-use Rattle.txn_ledger.specs.Ledger.{IsFile, StandsIn}
+use Rattle.txn_base.specs.Frames.{Batch, frames, Stands}
+use Rattle.txn_base.specs.Content.{LedgerContent, settled, kept, dropped, IsInFlight, KeptOrNot, Settles}
+use Rattle.txn_base.proofs.Laws.{goes_on, stands_one, not_settled, same_backed, same_settles}
+use Rattle.txn_ledger.specs.declared.settle.Behind.{Behind}
+use Rattle.txn_ledger.specs.declared.settle.Behind.TheVariants.{Frame, More, NoFrame}
+use Rattle.txn_ledger.specs.Gate.{IsFrameThere, IsBehind}
+use Rattle.txn_ledger.specs.Ledger.{IsFile, StandsIn, ExactlyIn, Stored}
 use Rattle.txn_ledger.specs.Tied.{IsSent}
 use Rattle.txn_ledger.proofs.Chain.{same_on}
 use Rattle.txn_ledger.proofs.Frames.{cut_is, only_frames}
-use Rattle.txn_ledger.proofs.InFlight.{IsFrameThere, kept_stands, dropped_stands, without, within, kept_ends, cut_stands}
+use Rattle.txn_ledger.proofs.InFlight.{kept_stands, dropped_stands, without, within, kept_ends, cut_stands}
 
 module _ (content : LedgerContent) (end sent : ℕ) (ends : end ≡ length (frames content.batches)) (doubt : IsInFlight content.standing) (is_sent : IsSent content.standing sent) where
   -- as it reads
@@ -33,68 +36,103 @@ module _ (content : LedgerContent) (end sent : ℕ) (ends : end ≡ length (fram
 
   -- a sync, and then a look at the file
   module _ {D : Type 0} (on : Ghosts D) (image_is_told : (d : D) (c : Files) → on.image d c → on.tells)
-      (file : FileId) (is : file ≡ content.key) (bytes : List ℕ) (old synced mid : D) (backed : Backed StandsIn (on.image old) content)
+      (file : FileId) (is : file ≡ content.key) (bytes : List ℕ) (old synced mid : D) (backed : Stored (on.image old) content)
       (syncing : After on Same old synced) (durable : Only file bytes (on.image synced)) (looking : After on Same synced mid) where
     looked : After on Same old mid
     looked = same_on on file end Same old synced mid syncing looking
 
-    same_backed : Backed StandsIn (on.image mid) content
-    same_backed = record { each = λ c at. let d = looked.at_end c at in subst (λ (f : Files). KeptOrNot (StandsIn content.key f) content.batches content.standing) (sym d.2) (backed.each d.0 d.1) }
+    mid_backed : Stored (on.image mid) content
+    mid_backed = same_backed StandsIn ExactlyIn on old mid content looked backed
 
-    same_settles : After on (Settles IsFile StandsIn content) old mid
-    same_settles = weaker on _ _ old mid (λ d c at same. record {
-      here = subst (λ (f : Files). KeptOrNot (StandsIn content.key f) content.batches content.standing) (sym same) (backed.each d at);
-      others = λ other apart. ap (λ (f : Files). f other) same;
-    }) looked
+    mid_settles : After on (Settles IsFile StandsIn content) old mid
+    mid_settles = same_settles StandsIn ExactlyIn IsFile on old mid content looked backed
 
     -- each image is as the file read
+    read_is : (e : Files) → on.image mid e → bytes ≡ e content.key
+    read_is e at = let f = looking.at_end e at in sym (durable f.0 f.1) ∙ ap (λ (c : Files). c file) (sym f.2) ∙ ap e is
+
     read_so : (P : List ℕ → Type 0) → (on.tells → P bytes) → (e : Files) → on.image mid e → P (e content.key)
-    read_so P so e at = let f = looking.at_end e at in subst P (sym (durable f.0 f.1) ∙ ap (λ (c : Files). c file) (sym f.2) ∙ ap e is) (so (image_is_told mid e at))
+    read_so P so e at = subst P (read_is e at) (so (image_is_told mid e at))
 
-    -- where it is whole on the disk
-    pub kept_backed : (on.tells → IsFrameThere end sent bytes) → Backed StandsIn (on.image mid) (kept content)
-    kept_backed whole = record { each = λ c at. read_kept (c content.key) (same_backed.each c at) (read_so (λ (x : List ℕ). IsFrameThere end sent x) whole c at) }
+    -- what the look found
+    module _ (behind : Behind) (read : List ℕ) (as_read : read ≡ bytes) (found : on.tells → IsBehind end sent read behind) where
+      pub not_there : behind ≡ NoFrame → on.tells → IsFrameThere end sent bytes → ⊥
+      not_there e told is = subst (λ (b : Behind). IsBehind end sent read b) e (found told) (subst (λ (x : List ℕ). IsFrameThere end sent x) (sym as_read) is)
 
-    -- and where the file is then cut behind it
-    module _ (whole : on.tells → IsFrameThere end sent bytes) (new : D) (cutting : After on (Changes file (OldOrResized (end + sent))) mid new) where
-      longer_cut : After on (Changes content.key (OldOrResized (end + sent))) mid new
-      longer_cut = subst (λ (f : FileId). After on (Changes f (OldOrResized (end + sent))) mid new) is cutting
+      pub is_more : behind ≡ More → on.tells → IsFrameThere end sent bytes
+      is_more e told = subst (λ (x : List ℕ). IsFrameThere end sent x) as_read (subst (λ (b : Behind). IsBehind end sent read b) e (found told))
 
-      after_longer : (e c : Files) → on.image mid e → Changes content.key (OldOrResized (end + sent)) e c → Stands (c content.key) (kept content).batches
-      after_longer e c at step =
-          cut_stands (kept content).batches (end + sent) 0 (kept_ends content.batches end sent ends content.standing doubt is_sent) (e content.key) (c content.key) ((kept_backed whole).each e at) step.here
+      pub is_there : behind ≡ Frame → on.tells → IsFrameThere end sent bytes × (length bytes ≡ end + sent)
+      is_there e told = subst (λ (x : List ℕ). IsFrameThere end sent x × (length x ≡ end + sent)) as_read (subst (λ (b : Behind). IsBehind end sent read b) e (found told))
 
-      pub longer_backed : Backed StandsIn (on.image new) (kept content)
-      longer_backed = record { each = λ c at. let e = longer_cut.at_end c at in after_longer e.0 c e.1 e.2 }
+    -- and then a cut behind batches for which it stands
+    module _ (batches : List Batch) (n : ℕ) (ends_there : n ≡ length (frames batches)) (there : (e : Files) → on.image mid e → Stands (e content.key) batches)
+        (either : (x : List ℕ) → Stands x batches → KeptOrNot (Stands x) content.batches content.standing)
+        (new : D) (cutting : After on (Changes file (OldOrResized n)) mid new) where
+      cut_here : After on (Changes content.key (OldOrResized n)) mid new
+      cut_here = subst (λ (f : FileId). After on (Changes f (OldOrResized n)) mid new) is cutting
 
-      longer_within : (e c : Files) → on.image mid e → Changes content.key (OldOrResized (end + sent)) e c → KeptOrNot (StandsIn content.key c) content.batches content.standing
-      longer_within e c at step = within content.batches end sent ends content.standing doubt (c content.key) (after_longer e c at step)
+      after : (e c : Files) → on.image mid e → Changes content.key (OldOrResized n) e c → Stands (c content.key) batches
+      after e c at step = cut_stands batches n 0 ends_there (e content.key) (c content.key) (there e at) step.here
 
-      pub longer_in_doubt : Backed StandsIn (on.image new) content
-      longer_in_doubt = record { each = λ c at. let e = longer_cut.at_end c at in longer_within e.0 c e.1 e.2 }
+      in_doubt : Stored (on.image new) content
+      in_doubt = record {
+        each = λ c at. let e = cut_here.at_end c at in either (c content.key) (after e.0 c e.1 e.2);
+        exact = λ settled. absurd (not_settled content.standing doubt settled);
+      }
 
-      pub longer_settles : After on (Settles IsFile StandsIn content) old new
-      longer_settles = goes_on on _ _ _ old mid new same_settles longer_cut (λ d c at is. is)
-          (λ d e c at one mid_at two. record { here = longer_within e c mid_at two; others = λ other apart. two.others other apart ∙ one.others other apart })
-
-    -- and where it isn't, and the file is cut
-    module _ (not_whole : on.tells → IsFrameThere end sent bytes → ⊥) (new : D) (cutting : After on (Changes file (OldOrResized end)) mid new) where
-      cut_here : After on (Changes content.key (OldOrResized end)) mid new
-      cut_here = subst (λ (f : FileId). After on (Changes f (OldOrResized end)) mid new) is cutting
-
-      after_cut : (e c : Files) → on.image mid e → Changes content.key (OldOrResized end) e c → Stands (c content.key) content.batches
-      after_cut e c at step =
-          cut_stands content.batches end sent ends (e content.key) (c content.key) (read_dropped (e content.key) (same_backed.each e at) (read_so (λ (x : List ℕ). IsFrameThere end sent x → ⊥) not_whole e at)) step.here
-
-      pub cut_backed : Backed StandsIn (on.image new) (dropped content)
-      cut_backed = record { each = λ c at. let e = cut_here.at_end c at in after_cut e.0 c e.1 e.2 }
-
-      pub cut_in_doubt : Backed StandsIn (on.image new) content
-      cut_in_doubt = record { each = λ c at. let e = cut_here.at_end c at in without content.batches end sent ends content.standing (c content.key) (after_cut e.0 c e.1 e.2) }
-
-      pub cut_settles : After on (Settles IsFile StandsIn content) old new
-      cut_settles = goes_on on _ _ _ old mid new same_settles cut_here (λ d c at is. is)
+      settles : After on (Settles IsFile StandsIn content) old new
+      settles = goes_on on _ _ _ old mid new mid_settles cut_here (λ d c at is. is)
           (λ d e c at one mid_at two. record {
-            here = without content.batches end sent ends content.standing (c content.key) (after_cut e c mid_at two);
+            here = either (c content.key) (after e c mid_at two);
+            still = λ others so. subst (λ (l : List Batch). Stands (c content.key) l) (stands_one (e content.key) batches others (there e mid_at) (one.still others so)) (after e c mid_at two);
+            quiet = λ settled. absurd (not_settled content.standing doubt settled);
             others = λ other apart. two.others other apart ∙ one.others other apart;
           })
+
+      backs : (read : List ℕ) → read ≡ bytes → (on.tells → Only file (resized n read) (on.image new))
+          → Stored (on.image new) (record { key = content.key; batches = batches; standing = settled })
+      backs read as_read done = record {
+        each = λ c at. let e = cut_here.at_end c at in after e.0 c e.1 e.2;
+        exact = λ settled c at.
+            let e = cut_here.at_end c at in
+            ap c (sym is) ∙ done (image_is_told new c at) c at ∙ ap (λ (x : List ℕ). resized n x) (as_read ∙ read_is e.0 e.1) ∙ cut_is batches n ends_there (e.0 content.key) (there e.0 e.1);
+      }
+
+    -- where the frame is there
+    module _ (whole : on.tells → IsFrameThere end sent bytes) where
+      kept_there : (e : Files) → on.image mid e → Stands (e content.key) (kept content).batches
+      kept_there e at = read_kept (e content.key) (mid_backed.each e at) (read_so (λ (x : List ℕ). IsFrameThere end sent x) whole e at)
+
+      -- and no more
+      pub kept_backed : (on.tells → length bytes ≡ end + sent) → Stored (on.image mid) (kept content)
+      kept_backed long = record {
+        each = kept_there;
+        exact = λ settled e at. kept_just (e content.key) (kept_there e at) (read_so (λ (x : List ℕ). length x ≡ end + sent) long e at);
+      }
+
+      -- or the file is cut behind it
+      pub longer_in_doubt : (new : D) (cutting : After on (Changes file (OldOrResized (end + sent))) mid new) → Stored (on.image new) content
+      longer_in_doubt = in_doubt (kept content).batches (end + sent) (kept_ends content.batches end sent ends content.standing doubt is_sent) kept_there (within content.batches end sent ends content.standing doubt)
+
+      pub longer_settles : (new : D) (cutting : After on (Changes file (OldOrResized (end + sent))) mid new) → After on (Settles IsFile StandsIn content) old new
+      longer_settles = settles (kept content).batches (end + sent) (kept_ends content.batches end sent ends content.standing doubt is_sent) kept_there (within content.batches end sent ends content.standing doubt)
+
+      pub longer_backed : (new : D) (cutting : After on (Changes file (OldOrResized (end + sent))) mid new)
+          → (read : List ℕ) → read ≡ bytes → (on.tells → Only file (resized (end + sent) read) (on.image new)) → Stored (on.image new) (kept content)
+      longer_backed = backs (kept content).batches (end + sent) (kept_ends content.batches end sent ends content.standing doubt is_sent) kept_there (within content.batches end sent ends content.standing doubt)
+
+    -- where it isn't, and the file is cut
+    module _ (none : on.tells → IsFrameThere end sent bytes → ⊥) where
+      dropped_there : (e : Files) → on.image mid e → Stands (e content.key) content.batches
+      dropped_there e at = read_dropped (e content.key) (mid_backed.each e at) (read_so (λ (x : List ℕ). IsFrameThere end sent x → ⊥) none e at)
+
+      pub cut_in_doubt : (new : D) (cutting : After on (Changes file (OldOrResized end)) mid new) → Stored (on.image new) content
+      cut_in_doubt = in_doubt content.batches end ends dropped_there (without content.batches end sent ends content.standing)
+
+      pub cut_settles : (new : D) (cutting : After on (Changes file (OldOrResized end)) mid new) → After on (Settles IsFile StandsIn content) old new
+      cut_settles = settles content.batches end ends dropped_there (without content.batches end sent ends content.standing)
+
+      pub cut_backed : (new : D) (cutting : After on (Changes file (OldOrResized end)) mid new)
+          → (read : List ℕ) → read ≡ bytes → (on.tells → Only file (resized end read) (on.image new)) → Stored (on.image new) (dropped content)
+      cut_backed = backs content.batches end ends dropped_there (without content.batches end sent ends content.standing)

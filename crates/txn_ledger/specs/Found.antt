@@ -1,7 +1,7 @@
 -- What stands behind the frames of a file that were read so far.
-use Rattle.std.specs.Prelude.{◌≡◌, ℕ, ◌+◌, ◌*◌, ◌≤◌, List, ◌∷◌, ◌++◌, length, take, drop}
+use Rattle.std.specs.Prelude.{◌≡◌, ℕ, ◌+◌, ◌*◌, ◌≤◌, List, ◌∷◌, ◌++◌, length, take, drop, All}
 use Rattle.byteorder.specs.Endian.{big_bytes}
-use Rattle.txn_base.specs.Frames.{Batch, IsBatch, IsShut, IsDamagedAt, Stands, frame}
+use Rattle.txn_base.specs.Frames.{Batch, IsBatch, IsShut, IsDamagedAt, Stands, frame, frames}
 use Rattle.txn_ledger.specs.declared.parse.Head.{Head}
 use Rattle.txn_ledger.specs.declared.parse.Head.TheVariants.{Body, End, NoFrame}
 
@@ -35,3 +35,9 @@ KeepsList before after = (batches : List Batch) → Stands before batches → St
 -- Bytes in which an open gate begins no frame stay as they were.
 abbrev pub KeepsDamaged : List ℕ → List ℕ → Type 0
 KeepsDamaged before after = (entry : ℕ) → IsDamagedAt before entry → after ≡ before
+
+-- The bytes stand for what they stood for, damaged ones stay as they were, and so do those that are just frames.
+pub record KeepsFile (before after : List ℕ) : Type 0 where
+  pub list : KeepsList before after
+  pub damage : KeepsDamaged before after
+  pub just : (batches : List Batch) → All IsBatch batches → before ≡ frames batches → after ≡ before

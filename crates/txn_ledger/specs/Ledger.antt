@@ -1,7 +1,7 @@
 -- What the file of a ledger stands for, and what a clause sees of a ledger.
 use Rattle.std.specs.Prelude.{◌≡◌, ℕ, List, ◌++◌}
 use Rattle.txn_base.specs.declared.file_id.FileId.{FileId}
-use Rattle.txn_base.specs.Content.{LedgerContent}
+use Rattle.txn_base.specs.Content.{LedgerContent, Backed}
 use Rattle.txn_base.specs.Disk.{Files}
 use Rattle.txn_base.specs.Frames.{Batch, frames, Stands}
 
@@ -20,6 +20,10 @@ ExactlyIn key files batches = files key ≡ frames batches
 -- The file begins with the frames of these batches.
 abbrev pub BeginsIn : FileId → Files → List Batch → Type 0
 BeginsIn key files batches = (rest : List ℕ) × (files key ≡ frames batches ++ rest)
+
+-- Each image of a disk has the ledger's file as its content tells.
+abbrev pub Stored : (Files → Type 0) → LedgerContent → Type 0
+Stored image content = Backed StandsIn ExactlyIn image content
 
 -- its content, for how many more records there is room, and for how long a frame
 pub record Shown : Type 0 where

@@ -5,4 +5,5 @@ pub mod Ledger
 pub mod LedgerLaws
 pub mod Log
 pub mod Positions
+pub mod Reading
 pub mod Tied

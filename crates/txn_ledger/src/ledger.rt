@@ -1,11 +1,11 @@
 //! The ledger of one file.
 ghost use Rattle.std.specs.Prelude.{◌≡◌, ℕ, [], Err, IfOk};
-ghost use Rattle.txn_base.specs.Content.{settled, Backed};
+ghost use Rattle.txn_base.specs.Content.{settled};
 ghost use Rattle.txn_base.specs.Disk.{Elsewhere, Changes};
 ghost use Rattle.txn_base.specs.Frames.{IsDamagedAt};
 ghost use Rattle.txn_base.specs.Moves.{After, FaultsIn};
-ghost use Rattle.txn_ledger.specs.Found.{KeepsList, KeepsDamaged};
-ghost use Rattle.txn_ledger.specs.Ledger.{ExactlyIn, StandsIn};
+ghost use Rattle.txn_ledger.specs.Found.{KeepsDamaged, KeepsFile};
+ghost use Rattle.txn_ledger.specs.Ledger.{StandsIn, Stored};
 
 use crate::encode::{add_positions, encode};
 use crate::found::Found;
@@ -24,6 +24,9 @@ use txn_base::{Bytes, ContentCarrier, Disk, Failed, FileId, Steps};
 /// A list of records in one file. At run time it keeps where each record stands, and none of them.
 #[derive(Drop)]
 pub struct Ledger {
+    /// Where the bytes of a record that is asked for are taken from.
+    alloc: Global,
+
     file: FileId,
 
     /// Where the settled frames end.
@@ -73,18 +76,18 @@ impl Ledger {
         file: FileId,
     ) -> Result<Ledger, OpenError>
         ensures opened { IfOk result (λ ledger. (ledger.content.key ≡ file) × (ledger.content.standing ≡ settled)) }
-        ensures backed { IfOk result (λ ledger. Backed StandsIn (D.image disk.new) ledger.content) }
+        ensures backed { IfOk result (λ ledger. Stored (D.image disk.new) ledger.content) }
 
         // As the file read at the call, it stands for these batches.
         ensures told { D.tells → IfOk result (λ ledger. StandsIn file (D.seen disk.old) ledger.content.batches) }
-        ensures exact { D.tells → IfOk result (λ ledger. ExactlyIn file (D.seen disk.new) ledger.content.batches) }
         ensures damaged { (entry : ℕ) → result ≡ Err (OpenError.Damaged entry) → D.tells → IsDamagedAt (D.seen disk.old file) entry }
 
         // Of a damaged file nothing is cut off.
         ensures uncut { D.tells → KeepsDamaged (D.seen disk.old file) (D.seen disk.new file) }
 
-        // Each image at any moment of the call stands for what an image at the call stood for.
-        ensures images { After D.Disk (Changes file KeepsList) disk.old disk.new }
+        // In each image at any moment of the call the file stands for what it stood for in an image at the call; a damaged
+        // one stays as it was there, and so does one that is just frames.
+        ensures images { After D.Disk (Changes file KeepsFile) disk.old disk.new }
         ensures others { Elsewhere file (D.seen disk.old) (D.seen disk.new) }
         ensures cause { FaultsIn D.Disk file.part disk.old disk.new (result ≡ Err OpenError.Fault) }
     {
@@ -94,6 +97,7 @@ impl Ledger {
             positions,
         } = find(alloc, disk, file)?;
         Ok(Ledger {
+            alloc,
             file,
             end,
             sent: 0,
@@ -112,6 +116,7 @@ impl Ledger {
         ensures { result.content ≡ record { key = file; batches = []; standing = settled } }
     {
         Ledger {
+            alloc,
             file,
             end: 0,
             sent: 0,
@@ -216,12 +221,11 @@ impl RecordLog for Ledger {
 
     fn get<D: Disk, L: ledger::Ledger>(
         &self,
-        alloc: Global,
         disk: &mut D,
         place: u64,
         steps: &mut Steps<L>,
     ) -> Result<Bytes, GetError> {
         steps.tick();
-        read_record(alloc, disk, self.file, self.positions[place as usize])
+        read_record(self.alloc, disk, self.file, self.positions[place as usize])
     }
 }

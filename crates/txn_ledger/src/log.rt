@@ -9,7 +9,7 @@ ghost use Rattle.txn_base.specs.Frames.{Batch, IsBatch, frame, records};
 ghost use Rattle.txn_base.specs.Moves.{After, FailsIn, FaultsIn};
 ghost use Rattle.txn_ledger.specs.Log.{settled_as};
 
-use std::alloc::{AllocError, Global};
+use std::alloc::AllocError;
 use std::sync::ledger;
 use thiserror::Error;
 use txn_base::{Bytes, Disk, Failed, Steps};
@@ -25,7 +25,7 @@ pub enum GetError {
 
 /// What became of a batch whose append failed: its gate is open and it stands behind the others, or the gate is closed and
 /// it was cut off.
-#[derive(Clone, Copy, Debug, PartialEq, Eq)]
+#[derive(Clone, Copy, PartialEq, Eq)]
 pub enum Settled {
     Kept,
     Dropped,
@@ -76,13 +76,12 @@ pub trait RecordLog {
         requires batch { IsBatch (contents_of batch.now) }
         requires spare { length batch.now ≤ spare self.old }
         requires room { length (frame (contents_of batch.now)) ≤ room self.old }
-        requires backed { Backed stands (D.image disk.old) (content self.old) }
+        requires backed { Backed stands exactly (D.image disk.old) (content self.old) }
         ensures ok { OnOk result (content self.new ≡ landed (content self.old) (contents_of batch.now)) }
         ensures err { OnErr result (content self.new ≡ begun (content self.old) (contents_of batch.now)) }
-        ensures exact { D.tells → OnOk result (exactly (content self.new).key (D.seen disk.new) (content self.new).batches) }
         ensures spare { OnOk result (spare self.new + length batch.now ≡ spare self.old) }
         ensures room { room self.old ≤ room self.new }
-        ensures backed { Backed stands (D.image disk.new) (content self.new) }
+        ensures backed { Backed stands exactly (D.image disk.new) (content self.new) }
         ensures images { After D.Disk (Appends mine stands (content self.old) (contents_of batch.now)) disk.old disk.new }
         ensures others { ChangesOnly (mine (content self.old).key) (D.seen disk.old) (D.seen disk.new) }
         ensures cause { FailsIn D.Disk (content self.old).key.part disk.old disk.new result }
@@ -93,14 +92,13 @@ pub trait RecordLog {
     /// count. It takes no memory.
     fn settle<D: Disk>(&mut self, disk: &mut D) -> Result<Settled, Failed>
         requires in_flight { IsInFlight (content self.old).standing }
-        requires backed { Backed stands (D.image disk.old) (content self.old) }
+        requires backed { Backed stands exactly (D.image disk.old) (content self.old) }
         ensures ok { IfOk result (λ settled. content self.new ≡ settled_as settled (content self.old)) }
         ensures err { OnErr result (content self.new ≡ content self.old) }
 
-        ensures exact { D.tells → IfOk result (λ settled. exactly (content self.new).key (D.seen disk.new) (content self.new).batches) }
         // It is what the files stood for at the call.
         ensures found { D.tells → IfOk result (λ settled. stands (content self.old).key (D.seen disk.old) (settled_as settled (content self.old)).batches) }
-        ensures backed { Backed stands (D.image disk.new) (content self.new) }
+        ensures backed { Backed stands exactly (D.image disk.new) (content self.new) }
         ensures images { After D.Disk (Settles mine stands (content self.old)) disk.old disk.new }
         ensures others { ChangesOnly (mine (content self.old).key) (D.seen disk.old) (D.seen disk.new) }
         ensures cause { FailsIn D.Disk (content self.old).key.part disk.old disk.new result };
@@ -108,7 +106,6 @@ pub trait RecordLog {
     /// A record. It may also be asked of a log that isn't settled. Each call counts as one record read.
     fn get<D: Disk, L: ledger::Ledger>(
         &self,
-        alloc: Global,
         disk: &mut D,
         place: u64,
         steps: &mut Steps<L>,

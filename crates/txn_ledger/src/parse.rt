@@ -11,7 +11,7 @@ use std::alloc::AllocError;
 
 /// What stands in a frame's place: a gate that is open and the length of a body, an end or a gate that is closed, or an
 /// open gate that begins no frame.
-#[derive(Clone, Copy, Debug, PartialEq, Eq)]
+#[derive(Clone, Copy, PartialEq, Eq)]
 pub enum Head {
     Body { len: u32 },
     End,

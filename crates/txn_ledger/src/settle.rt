@@ -1,41 +1,48 @@
 //! What became of a batch whose append failed. The carrier tells the clauses which it is.
-ghost use Rattle.std.specs.Prelude.{◌≡◌, ◌+◌, ◌^◌, ◌<◌, ◌≤◌, Ok, length, slice_index, IsTrue, IfOk, OnOk, OnErr};
-ghost use Rattle.txn_base.specs.Content.{IsInFlight, Backed, Settles};
+ghost use Rattle.std.specs.Prelude.{◌≡◌, ◌+◌, ◌^◌, ◌<◌, ◌≤◌, Ok, length, IfOk, OnOk, OnErr};
+ghost use Rattle.txn_base.specs.Content.{IsInFlight, Settles};
 ghost use Rattle.txn_base.specs.Disk.{Same, Elsewhere, Changes, OldOrResized, resized, Only};
 ghost use Rattle.txn_base.specs.Frames.{frames};
 ghost use Rattle.txn_base.specs.Moves.{After, FailsIn};
-ghost use Rattle.txn_ledger.specs.Ledger.{ExactlyIn, IsFile, StandsIn};
+ghost use Rattle.txn_ledger.specs.Gate.{IsBehind, HasFrame};
+ghost use Rattle.txn_ledger.specs.Ledger.{IsFile, StandsIn, Stored};
 ghost use Rattle.txn_ledger.specs.Log.{settled_as};
 ghost use Rattle.txn_ledger.specs.Tied.{IsSent};
 
 use crate::Settled;
 use txn_base::{ContentCarrier, Disk, Failed, FileId};
 
-/// Whether a frame of that many bytes stands behind an open gate, in a file of this size.
-fn is_whole<D: Disk>(
-    disk: &mut D,
-    file: FileId,
-    size: u64,
-    end: u64,
-    sent: u64,
-) -> Result<bool, Failed>
-    requires size { D.tells → size ≡ length (D.seen disk.old file) }
-    requires small { size ≤ 2 ^ 50 }
+/// What stands behind the settled frames, where a frame of so many bytes was sent there: that frame behind an open gate and
+/// no more, the same and more, or no such frame.
+#[derive(Clone, Copy)]
+pub enum Behind {
+    Frame,
+    More,
+    NoFrame,
+}
+
+fn look_behind<D: Disk>(disk: &mut D, file: FileId, end: u64, sent: u64) -> Result<Behind, Failed>
     requires some { 1 ≤ sent }
     requires room { end + sent < 2 ^ 64 }
-    ensures whole { D.tells → IfOk result (λ whole. IsTrue whole → (end + sent ≤ length (D.seen disk.old file)) × (slice_index (D.seen disk.old file) end ≡ 1)) }
-    ensures not_whole { D.tells → IfOk result (λ whole. end + sent ≤ length (D.seen disk.old file) → slice_index (D.seen disk.old file) end ≡ 1 → IsTrue whole) }
-    ensures bound { IfOk result (λ whole. IsTrue whole → end + sent ≤ 2 ^ 50) }
+    ensures found { D.tells → IfOk result (λ behind. IsBehind end sent (D.seen disk.old file) behind) }
+    ensures bound { IfOk result (λ behind. HasFrame behind → end + sent ≤ 2 ^ 50) }
     ensures seen { D.seen disk.new ≡ D.seen disk.old }
     ensures images { After D.Disk Same disk.old disk.new }
     ensures cause { FailsIn D.Disk file.part disk.old disk.new result }
 {
+    let size = disk.size(file)?;
     if size < end + sent {
-        return Ok(false);
+        return Ok(Behind::NoFrame);
     }
     let mut gate = [0];
     disk.read(file, end, &mut gate)?;
-    Ok(gate[0] == 1)
+    if gate[0] != 1 {
+        return Ok(Behind::NoFrame);
+    }
+    if end + sent < size {
+        return Ok(Behind::More);
+    }
+    Ok(Behind::Frame)
 }
 
 /// Cuts a file.
@@ -64,10 +71,9 @@ pub fn find_out<D: Disk>(
     requires ends { end ≡ length (frames carrier.now.content.batches) }
     requires bound { end ≤ 2 ^ 50 }
     requires sent { IsSent carrier.now.content.standing sent }
-    requires backed { Backed StandsIn (D.image disk.old) carrier.now.content }
-    ensures ok { IfOk result (λ settled. Backed StandsIn (D.image disk.new) (settled_as settled carrier.now.content)) }
-    ensures err { OnErr result (Backed StandsIn (D.image disk.new) carrier.now.content) }
-    ensures exact { D.tells → IfOk result (λ settled. ExactlyIn carrier.now.content.key (D.seen disk.new) (settled_as settled carrier.now.content).batches) }
+    requires backed { Stored (D.image disk.old) carrier.now.content }
+    ensures ok { IfOk result (λ settled. Stored (D.image disk.new) (settled_as settled carrier.now.content)) }
+    ensures err { OnErr result (Stored (D.image disk.new) carrier.now.content) }
     ensures found { D.tells → IfOk result (λ settled. StandsIn carrier.now.content.key (D.seen disk.old) (settled_as settled carrier.now.content).batches) }
     ensures bound { result ≡ Ok Settled.Kept → end + sent ≤ 2 ^ 50 }
     ensures images { After D.Disk (Settles IsFile StandsIn carrier.now.content) disk.old disk.new }
@@ -75,13 +81,15 @@ pub fn find_out<D: Disk>(
     ensures cause { FailsIn D.Disk carrier.now.content.key.part disk.old disk.new result }
 {
     disk.sync(file)?;
-    let size = disk.size(file)?;
-    if !is_whole(disk, file, size, end, sent)? {
-        cut(disk, file, end)?;
-        return Ok(Settled::Dropped);
+    match look_behind(disk, file, end, sent)? {
+        Behind::NoFrame => {
+            cut(disk, file, end)?;
+            Ok(Settled::Dropped)
+        }
+        Behind::More => {
+            cut(disk, file, end + sent)?;
+            Ok(Settled::Kept)
+        }
+        Behind::Frame => Ok(Settled::Kept),
     }
-    if end + sent < size {
-        cut(disk, file, end + sent)?;
-    }
-    Ok(Settled::Kept)
 }

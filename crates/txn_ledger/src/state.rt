@@ -1,7 +1,7 @@
 //! How a ledger stands.
 
 /// Settled, with a batch in flight, or only looked at.
-#[derive(Clone, Copy, Debug, PartialEq, Eq)]
+#[derive(Clone, Copy, PartialEq, Eq)]
 pub enum State {
     Settled,
     InFlight,

@@ -1,13 +1,13 @@
 //! A batch behind the others. The carrier tells the clauses which batches there are.
 ghost use Rattle.std.specs.Prelude.{◌≡◌, ◌+◌, ◌^◌, ◌<◌, ◌≤◌, ◌∷◌, length, drop, OnOk, OnErr};
 ghost use Rattle.txn_base.specs.Bytes.{contents_of};
-ghost use Rattle.txn_base.specs.Content.{settled, landed, begun, Backed, Appends};
+ghost use Rattle.txn_base.specs.Content.{settled, landed, begun, Appends};
 ghost use Rattle.txn_base.specs.Disk.{Files, Elsewhere, Changes};
 ghost use Rattle.txn_base.specs.Outside.{counted};
 ghost use Rattle.txn_base.specs.Frames.{IsBatch, behind_gate, frame, frames};
 ghost use Rattle.txn_base.specs.Moves.{After, FailsIn};
 ghost use Rattle.txn_ledger.specs.Gate.{IsClosedAt, MayOpen};
-ghost use Rattle.txn_ledger.specs.Ledger.{ExactlyIn, IsFile, StandsIn};
+ghost use Rattle.txn_ledger.specs.Ledger.{IsFile, StandsIn, Stored};
 
 use crate::gate::open_gate;
 use crate::stage::stage;
@@ -46,10 +46,9 @@ pub fn write_batch<D: Disk>(
     requires bound { end ≤ 2 ^ 50 }
     requires batch { IsBatch (contents_of batch.now) }
     requires tail { tail.now ≡ behind_gate (contents_of batch.now) }
-    requires backed { Backed StandsIn (D.image disk.old) carrier.now.content }
-    ensures ok { OnOk result (Backed StandsIn (D.image disk.new) (landed carrier.now.content (contents_of batch.now))) }
-    ensures exact { D.tells → OnOk result (ExactlyIn carrier.now.content.key (D.seen disk.new) (landed carrier.now.content (contents_of batch.now)).batches) }
-    ensures err { OnErr result (Backed StandsIn (D.image disk.new) (begun carrier.now.content (contents_of batch.now))) }
+    requires backed { Stored (D.image disk.old) carrier.now.content }
+    ensures ok { OnOk result (Stored (D.image disk.new) (landed carrier.now.content (contents_of batch.now))) }
+    ensures err { OnErr result (Stored (D.image disk.new) (begun carrier.now.content (contents_of batch.now))) }
     ensures images { After D.Disk (Appends IsFile StandsIn carrier.now.content (contents_of batch.now)) disk.old disk.new }
     ensures bound { OnOk result (end + length (frame (contents_of batch.now)) ≤ 2 ^ 50) }
     ensures others { Elsewhere carrier.now.content.key (D.seen disk.old) (D.seen disk.new) }

@@ -4,9 +4,10 @@ use Rattle.txn_base.specs.declared.disk.Disk.{Ghosts}
 use Rattle.txn_base.specs.Moves.{After}
 use Rattle.txn_base.specs.Outside.{Rose}
 use Rattle.txn_base.proofs.Laws.{started, goes_on}
+use Rattle.txn_engine.proofs.Laws.{keeps_itself}
 use Rattle.txn_engine.specs.Above.{KeepsAboveIf}
 use Rattle.txn_engine.specs.Files.{OnlyLedgers}
-use Rattle.txn_engine.specs.Opening.{KeepsLists}
+use Rattle.txn_engine.specs.Opening.{KeepsFiles}
 use Rattle.txn_engine.specs.Told.{CountsWithin}
 use Rattle.txn_run.specs.Files.{LeavesOthers}
 
@@ -35,8 +36,8 @@ module _ {D : Type 0} (on : Ghosts D) where
         since = goes_on on (OnlyLedgers (length names)) (OnlyLedgers (length names)) (OnlyLedgers (length names)) old mid new one.since two.since (λ d c at is. is) (λ d e c at first mid_at then file apart. then file apart ∙ first file apart);
       }
 
-  pub lists_kept : (disk : D) → After on KeepsLists disk disk
-  lists_kept disk = started on disk KeepsLists (λ c at file batches stands. stands)
+  pub lists_kept : (disk : D) → After on KeepsFiles disk disk
+  lists_kept disk = started on disk KeepsFiles (λ c at file. keeps_itself (c file))
 
 rose_then : (a b c : ℕ) → a ≤ b → Rose b c → Rose a c
 rose_then a b c le rose = grind (arith, le, rose)

@@ -20,7 +20,7 @@ use Rattle.txn_engine.specs.declared.opening.EngineError.{EngineError}
 use Rattle.txn_engine.specs.declared.opening.EngineError.TheVariants as engine_error
 use Rattle.txn_engine.proofs.Laws.{lists_worlds, left_kept, worlds_then}
 use Rattle.txn_run.specs.Going.{run_state}
-use Rattle.txn_run.specs.Run.{StandsForSome, Leaves, IsEarly, IsAnswered, first_run_state}
+use Rattle.txn_run.specs.Run.{StandsForSome, Leaves, IsEarly, IsAnswered, IsAtRest, first_run_state}
 use Rattle.txn_run.specs.Status.{status_unopened}
 use Rattle.txn_run.specs.declared.status.RunStatus.TheVariants as status
 use Rattle.txn_run.proofs.FirstState.{first_table}
@@ -95,3 +95,8 @@ pub not_answered : (error : EngineError) → IsAnswered (status_unopened error) 
 not_answered (engine_error.Damaged at place) is = is
 not_answered engine_error.Fault is = is
 not_answered engine_error.NoMemory is = is
+
+pub not_at_rest : (error : EngineError) → IsAtRest (status_unopened error) → ⊥
+not_at_rest (engine_error.Damaged at place) is = is
+not_at_rest engine_error.Fault is = is
+not_at_rest engine_error.NoMemory is = is

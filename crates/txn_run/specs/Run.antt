@@ -9,7 +9,7 @@ use Rattle.txn_base.specs.Disk.{Files}
 use Rattle.txn_base.specs.Moves.{After}
 use Rattle.txn_base.specs.declared.limits.Limits.{Limits}
 use Rattle.txn_base.specs.declared.reply.Reply.{Reply}
-use Rattle.txn_engine.specs.Opening.{AreParts, KeepsLists, KeepsAllDamaged}
+use Rattle.txn_engine.specs.Opening.{AreParts, KeepsFiles, KeepsAllDamaged}
 use Rattle.txn_model.specs.declared.world.World.{World}
 use Rattle.txn_model.specs.Cut.{whole_lines, lines_of}
 use Rattle.txn_model.specs.Opening.{first_state}
@@ -165,8 +165,15 @@ Asks words holds = (name : List ℕ) → command_of words ≡ Ok name → holds 
 -- stays as it was; or the reply to the last line told of a fault, and the files of n parts had been read.
 abbrev pub DiskStopped : {D I O K : Type 0} → disk.Ghosts D → source.Ghosts I → sink.Ghosts O → ℕ → (d d' : D) → (i i' : I) → (o o' : O) → (k k' : K) → Type 0
 DiskStopped D I O n d d' i i' o o' k k' =
-    ((i' ≡ i) × (o' ≡ o) × (k' ≡ k) × After D KeepsLists d d' × (D.tells → KeepsAllDamaged (D.seen d) (D.seen d')))
+    ((i' ≡ i) × (o' ≡ o) × (k' ≡ k) × After D KeepsFiles d d' × (D.tells → KeepsAllDamaged (D.seen d) (D.seen d')))
     ⊎ (FaultIsLast (I.left i) (I.left i') (O.held o) (O.held o') × (D.tells → AreParts n (D.seen d)))
+
+-- The statuses of a run after which no append is in doubt.
+abbrev pub IsAtRest : RunStatus → Type 0
+IsAtRest status.Ok = Unit {0}
+IsAtRest status.ReadFault = Unit {0}
+IsAtRest status.TooMuch = Unit {0}
+IsAtRest _ = ⊥
 
 -- The statuses of a run that took all its input, or whose source or sink failed, or that took too much.
 abbrev pub IsAnswered : RunStatus → Type 0

@@ -23,7 +23,7 @@ use txn_engine::Engine;
 use txn_wire::{WireError, read_request};
 
 /// Why no further line is answered.
-#[derive(Clone, Copy, Debug, PartialEq, Eq)]
+#[derive(Clone, Copy, PartialEq, Eq)]
 pub enum Stop {
     /// The sink took no more.
     Sink,

@@ -6,7 +6,7 @@ use txn_base::Bytes;
 
 /// The piece of a line that has come so far, in room that was taken before. Of a line that is too long its first bytes are
 /// kept until it ends, as many as a line may have, and nothing of what comes behind them.
-#[derive(Debug, Drop)]
+#[derive(Drop)]
 pub struct PartialLine {
     pub line: Bytes,
     pub long: bool,

@@ -8,17 +8,19 @@ ghost use Rattle.txn_base.specs.Room.{capacity};
 ghost use Rattle.txn_base.specs.Moves.{After, AtEachMoment};
 ghost use Rattle.txn_base.specs.declared.file_id.FileId.{FileId};
 ghost use Rattle.txn_base.specs.declared.usage.Usage.{Usage};
+ghost use Rattle.txn_base.specs.Disk.{Files};
 ghost use Rattle.txn_engine.specs.Above.{StandsAbove, KeepsAbove};
+ghost use Rattle.txn_engine.specs.Files.{AreJustFrames};
 ghost use Rattle.txn_engine.specs.Growing.{Grows, GrowsWorld};
-ghost use Rattle.txn_engine.specs.Opening.{AreParts, IsPartFile, IsFirstDamage, KeepsLists, KeepsAllDamaged};
+ghost use Rattle.txn_engine.specs.Opening.{AreParts, IsPartFile, IsFirstDamage, KeepsFiles, KeepsAllDamaged};
 ghost use Rattle.txn_engine.specs.Told.{FaultsWithin};
-ghost use Rattle.txn_engine.specs.View.{IsTied};
+ghost use Rattle.txn_engine.specs.View.{IsTied, IsWhole};
 ghost use Rattle.txn_model.specs.declared.world.World.{World};
 ghost use Rattle.txn_model.specs.Names.{NamesLawful};
 ghost use Rattle.txn_run.specs.Files.{LeavesOthers};
 ghost use Rattle.txn_run.specs.Going.{run_state_at, IsLineSoFar};
 ghost use Rattle.txn_run.specs.Promises.{KeepsPromises};
-ghost use Rattle.txn_run.specs.Run.{Ended, FaultIsLast, CameToLines, IsOpened, IsUnstarted, IsQuiet, IsAnswered, Asks, DiskStopped, RunsOn, Took};
+ghost use Rattle.txn_run.specs.Run.{Ended, FaultIsLast, CameToLines, IsOpened, IsUnstarted, IsQuiet, IsAnswered, IsAtRest, Asks, DiskStopped, RunsOn, Took};
 ghost use Rattle.txn_run.specs.Serving.{CanServe, Serves};
 ghost use Rattle.txn_run.specs.Words.{command_of};
 ghost use Rattle.txn_run.specs.declared.status.RunStatus.TheVariants as status;
@@ -71,8 +73,11 @@ pub fn run<D: Disk, I: Source, O: Sink, K: Clock>(
     // Only the two ledgers change. Where no line was looked at, each file keeps the list that it stands for, and one in which
     // an open gate begins no frame stays as it was.
     ensures elsewhere { LeavesOthers D.Disk 1 disk.old disk.new }
-    ensures lists { IsQuiet result → After D.Disk KeepsLists disk.old disk.new }
+    ensures lists { IsQuiet result → After D.Disk KeepsFiles disk.old disk.new }
     ensures uncut { IsQuiet result → D.tells → KeepsAllDamaged (D.seen disk.old) (D.seen disk.new) }
+
+    // Where all that was sent is answered, a stop leaves of each ledger its frames and no more.
+    ensures tidy { IsAtRest result → (c : Files) → D.image disk.new c → AreJustFrames 1 c }
     ensures usage { (u : Usage) → command_of words.now ≡ Err u → ((result ≡ status.Usage u) ⊎ (result ≡ status.NoMemory)) × (disk.new ≡ disk.old) × (source.new ≡ source.old) × (sink.new ≡ sink.old) }
     ensures command { (u : Usage) → result ≡ status.Usage u → command_of words.now ≡ Err u }
     ensures undamaged { IsAnswered result → D.tells → AreParts 1 (D.seen disk.old) }
@@ -122,8 +127,9 @@ fn run_over<L: ledger::Ledger, D: Disk, I: Source, O: Sink, K: Clock>(
     ensures grows { After D.Disk Grows disk.old disk.new }
     ensures worlds { After D.Disk (GrowsWorld names.items) disk.old disk.new }
     ensures images { After D.Disk (KeepsAbove names.items) disk.old disk.new }
-    ensures lists { IsQuiet result → After D.Disk KeepsLists disk.old disk.new }
+    ensures lists { IsQuiet result → After D.Disk KeepsFiles disk.old disk.new }
     ensures uncut { IsQuiet result → D.tells → KeepsAllDamaged (D.seen disk.old) (D.seen disk.new) }
+    ensures tidy { IsAtRest result → (c : Files) → D.image disk.new c → AreJustFrames (length names.items) c }
     ensures elsewhere { LeavesOthers D.Disk (length names.items) disk.old disk.new }
     ensures statuses { IsOpened result }
     ensures undamaged { IsAnswered result → D.tells → AreParts (length names.items) (D.seen disk.old) }
@@ -188,7 +194,7 @@ fn run_in<L: ledger::Ledger, D: Disk, I: Source, O: Sink, K: Clock>(
     ensures answers { D.tells → IsTied engine.old → (taken : List ℕ) × Consumes (I.left source.old) (I.left source.new) taken × Ended result limits.now (run_state_at D.Disk K.Clock engine.old clock.old disk.old) (O.held sink.old) taken (run_state_at D.Disk K.Clock engine.new clock.new disk.new) (O.held sink.new) (I.left source.new) }
     ensures taken { Took result limits.now (I.left source.old) (I.left source.new) clock.old clock.new }
     ensures stopped { result ≡ status.DiskFault → FaultIsLast (I.left source.old) (I.left source.new) (O.held sink.old) (O.held sink.new) }
-    ensures statuses { CameToLines result }
+    ensures statuses { CameToLines result × (IsAtRest result → IsWhole engine.new) }
     ensures serves { Serves D.Disk (result ≡ status.DiskFault) engine.old engine.new disk.old disk.new }
     ensures read { result ≡ status.ReadFault → Rose (I.faults source.old) (I.faults source.new) }
     ensures write { result ≡ status.WriteFault → Rose (O.faults sink.old) (O.faults sink.new) }

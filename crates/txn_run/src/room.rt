@@ -12,7 +12,7 @@ use txn_base::Bytes;
 pub const CHUNK: usize = 4096;
 
 /// The room that a run takes before its first line.
-#[derive(Debug, Drop)]
+#[derive(Drop)]
 pub struct Room {
     pub chunk: Vec<u8>,
     pub pending: PartialLine,

@@ -6,7 +6,7 @@ use txn_base::{FileId, Usage};
 use txn_engine::EngineError;
 
 /// How a run ended. The program's status is the number beside it.
-#[derive(Debug, Drop)]
+#[derive(Drop)]
 pub enum RunStatus {
     /// 0: the source was read to its end.
     Ok,

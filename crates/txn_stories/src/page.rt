@@ -5,7 +5,7 @@ use crate::wrong::Wrong;
 use std::alloc::{AllocError, Global};
 
 /// The lines of a story that are shown so far, and those that belong to the run that is asked for.
-#[derive(Debug, Drop)]
+#[derive(Drop)]
 pub struct Page {
     alloc: Global,
     pub text: String,

@@ -7,7 +7,7 @@ use txn_memdisk::{ListClock, MemDisk, MemSink, MemSource};
 use txn_run::{RunStatus, run};
 
 /// A run that a story asks for.
-#[derive(Debug, Drop)]
+#[derive(Drop)]
 pub struct Script {
     pub words: Vec<Text>,
     pub moments: Vec<u64>,
@@ -21,7 +21,7 @@ pub struct Script {
 }
 
 /// What came of a run.
-#[derive(Debug, Drop)]
+#[derive(Drop)]
 pub struct Came {
     /// The status, and the line on standard error.
     pub ending: String,

@@ -4,7 +4,7 @@ use crate::wrong::Wrong;
 use std::alloc::{AllocError, Global};
 
 /// A story as its file has it.
-#[derive(Debug, Drop)]
+#[derive(Drop)]
 pub struct Story {
     alloc: Global,
     /// Its first line.

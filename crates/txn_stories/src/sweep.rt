@@ -17,7 +17,7 @@ pub struct Past {
 }
 
 /// What a look at the disk may put where the run was at a line, besides what it puts after whole lines.
-#[derive(Debug, Drop)]
+#[derive(Drop)]
 pub struct Also {
     pub line: usize,
     pub put: Vec<u8>,
@@ -25,7 +25,7 @@ pub struct Also {
 
 /// What a look at the disk may put after a run: where the lines that were answered have been done, or also the line at which
 /// the call failed, of this number.
-#[derive(Debug, Drop)]
+#[derive(Drop)]
 struct Allowed {
     line: usize,
     without: Vec<u8>,

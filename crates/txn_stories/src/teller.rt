@@ -15,7 +15,7 @@ use txn_base::{FileId, Limits, Text};
 use txn_memdisk::FaultAt;
 
 /// What the lines that come belong to.
-#[derive(Clone, Copy, Debug)]
+#[derive(Clone, Copy)]
 enum Asked {
     Nothing,
     /// A run.

@@ -11,7 +11,7 @@ use txn_records::{
 };
 
 /// The ledgers that a record is of.
-#[derive(Clone, Copy, Debug)]
+#[derive(Clone, Copy)]
 pub enum Kind {
     Name,
     Coord,

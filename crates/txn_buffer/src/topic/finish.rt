@@ -1,7 +1,8 @@
 //! Ending a transaction in a topic.
+ghost use Rattle.txn_ledger.specs.Reading.{IsBackedOn};
 ghost use Rattle.std.specs.Prelude.{◌≡◌, ◌≤◌, [], ◌∷◌, None, Some, IsTrue, IsOk, OnOk, OnErr};
 ghost use Rattle.txn_base.specs.declared.file_id.FileId.{FileId};
-ghost use Rattle.txn_base.specs.Content.{Backed, Appends};
+ghost use Rattle.txn_base.specs.Content.{Appends};
 ghost use Rattle.txn_base.specs.Decoded.{topic_entry_of};
 ghost use Rattle.txn_base.specs.Disk.{ChangesOnly};
 ghost use Rattle.txn_base.specs.Records.{topic_record};
@@ -53,13 +54,13 @@ impl<R: RecordLog> Topic<R> {
         requires whole { IsTrue self.old.whole }
         requires reserved { self.old.reserved ≡ 1 }
         requires decision { IsNoneOr decision (marker_of (topic_skeletons self.old.front) txn) }
-        requires backed { Backed R.stands (D.image disk.old) self.old.content }
+        requires backed { IsBackedOn R.RecordLog D.Disk disk.old self.old.content }
         ensures stood { marker_of (topic_skeletons self.old.front) txn ≡ Some decision → IsOk result × (self.new ≡ self.old) × (disk.new ≡ disk.old) }
         ensures ok { OnOk result (marker_of (topic_skeletons self.old.front) txn ≡ None → self.new ≡ with_entries self.old (marker_entry txn decision ∷ []) 0) }
         ensures stands { OnOk result (marker_of (topic_skeletons self.new.front) txn ≡ Some decision) }
         ensures err { OnErr result (self.new ≡ with_failed_entries self.old (marker_entry txn decision ∷ [])) }
         ensures tied { IsFrontOf self.old → IsFrontOf self.new }
-        ensures backed { Backed R.stands (D.image disk.new) self.new.content }
+        ensures backed { IsBackedOn R.RecordLog D.Disk disk.new self.new.content }
         ensures images { After D.Disk (Appends R.mine R.stands self.old.content (topic_batch (marker_entry txn decision ∷ []))) disk.old disk.new }
         ensures others { ChangesOnly (R.mine self.old.content.key) (D.seen disk.old) (D.seen disk.new) }
         ensures cause { FailsIn D.Disk self.old.content.key.part disk.old disk.new result }
@@ -79,11 +80,11 @@ impl<R: RecordLog> Topic<R> {
         requires whole { IsTrue self.old.whole }
         requires reserved { self.old.reserved ≡ 1 }
         requires unmarked { marker_of (topic_skeletons self.old.front) txn ≡ None }
-        requires backed { Backed R.stands (D.image disk.old) self.old.content }
+        requires backed { IsBackedOn R.RecordLog D.Disk disk.old self.old.content }
         ensures ok { OnOk result (self.new ≡ with_entries self.old (marker_entry txn decision ∷ []) 0) }
         ensures err { OnErr result (self.new ≡ with_failed_entries self.old (marker_entry txn decision ∷ [])) }
         ensures tied { IsFrontOf self.old → IsFrontOf self.new }
-        ensures backed { Backed R.stands (D.image disk.new) self.new.content }
+        ensures backed { IsBackedOn R.RecordLog D.Disk disk.new self.new.content }
         ensures images { After D.Disk (Appends R.mine R.stands self.old.content (topic_batch (marker_entry txn decision ∷ []))) disk.old disk.new }
         ensures others { ChangesOnly (R.mine self.old.content.key) (D.seen disk.old) (D.seen disk.new) }
         ensures cause { FailsIn D.Disk self.old.content.key.part disk.old disk.new result }

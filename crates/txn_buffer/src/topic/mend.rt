@@ -1,7 +1,8 @@
 //! Rebuilding a topic from its ledger, step by step.
+ghost use Rattle.txn_ledger.specs.Reading.{IsBackedOn, ReadsOn};
 ghost use Rattle.std.specs.Prelude.{◌≡◌, ◌<◌, ◌≤◌, ◌+◌, ◌-◌, ◌^◌, ◌++◌, ℕ, IsTrue, Ok, Err, [], true, length, slice_index_or, IfOk, IfErr, OnOk, OnErr, is_none, is_some};
 ghost use Rattle.txn_base.specs.declared.file_id.FileId.{FileId};
-ghost use Rattle.txn_base.specs.Content.{settled, looked_at, Backed, Settles};
+ghost use Rattle.txn_base.specs.Content.{settled, looked_at, Settles};
 ghost use Rattle.txn_base.specs.Disk.{ChangesOnly};
 ghost use Rattle.txn_base.specs.Frames.{records};
 ghost use Rattle.txn_base.specs.Moves.{After, FaultsIn};
@@ -28,7 +29,7 @@ impl<R: RecordLog> Topic<R> {
         steps: &mut Steps<L>,
     ) -> Result<Progress, MendError>
         requires standing { self.old.content.standing ≡ looked_at → ⊥ }
-        requires backed { Backed R.stands (D.image disk.old) self.old.content }
+        requires backed { IsBackedOn R.RecordLog D.Disk disk.old self.old.content }
         ensures idle { IsTrue self.old.whole → (self.new ≡ self.old) × (disk.new ≡ disk.old) × (steps.new ≡ steps.old) × (result ≡ Ok (record { at = topic_total self.old; total = topic_total self.old })) }
         ensures ok { IfOk result (λ told. Mends self.old self.new told) }
         ensures err { OnErr result (IsRefusedStep self.old self.new) }
@@ -44,7 +45,7 @@ impl<R: RecordLog> Topic<R> {
         ensures damaged { (place : ℕ) → result ≡ Err (MendError.Damaged place) → IsInStep self.old (topic_total self.new) place }
         ensures first_bad { (place : ℕ) → result ≡ Err (MendError.Damaged place) → D.tells → IsFrontOf self.old → IsFirstBadRecord self.new.content.batches place }
         ensures tied { D.tells → IsFrontOf self.old → IsFrontOf self.new }
-        ensures backed { Backed R.stands (D.image disk.new) self.new.content }
+        ensures backed { IsBackedOn R.RecordLog D.Disk disk.new self.new.content }
         ensures images { After D.Disk (Settles R.mine R.stands self.old.content) disk.old disk.new }
         ensures others { ChangesOnly (R.mine self.old.content.key) (D.seen disk.old) (D.seen disk.new) }
         ensures cause { FaultsIn D.Disk self.old.content.key.part disk.old disk.new (result ≡ Err MendError.Fault) }
@@ -69,7 +70,7 @@ impl<R: RecordLog> Topic<R> {
         disk: &mut D,
         steps: &mut Steps<L>,
     ) -> Result<Vec<TopicRecord>, MendError>
-        requires backed { Backed R.stands (D.image disk.old) self.now.content }
+        requires reads { ReadsOn R.RecordLog D.Disk disk.old self.now.content }
         ensures count { IfOk result (λ staged. length staged.items ≡ step_of self.now (topic_total self.now)) }
         ensures few { OnOk result (length self.now.front + step_of self.now (topic_total self.now) ≤ topic_total self.now) }
         ensures fits { topic_total self.now < 2 ^ 64 }
@@ -103,7 +104,7 @@ impl<R: RecordLog> Topic<R> {
         steps: &mut Steps<L>,
     ) -> Result<TopicRecord, MendError>
         requires place { place < topic_total self.now }
-        requires backed { Backed R.stands (D.image disk.old) self.now.content }
+        requires reads { ReadsOn R.RecordLog D.Disk disk.old self.now.content }
         ensures allowed { IfOk result (λ r. part_allows (topic_skeletons (self.now.front ++ staged.now)) (topic_skeleton r) ≡ true) }
         ensures told { D.tells → IfOk result (λ r. IsEntryAt self.now.content.batches place r) }
         ensures damaged { (at : ℕ) → result ≡ Err (MendError.Damaged at) → at ≡ place }
@@ -111,7 +112,7 @@ impl<R: RecordLog> Topic<R> {
         ensures counted { steps.new ≡ steps.old + 1 }
         ensures reads { OnlyReads D.Disk self.now.content.key.part (result ≡ Err MendError.Fault) disk.old disk.new }
     {
-        let bytes = match self.log.get(self.alloc, disk, place, steps) {
+        let bytes = match self.log.get(disk, place, steps) {
             Ok(bytes) => bytes,
             Err(GetError::Fault) => return Err(MendError::Fault),
             Err(GetError::NoMemory) => return Err(MendError::NoMemory),
@@ -129,13 +130,13 @@ impl<R: RecordLog> Topic<R> {
 /// Settles a log that isn't settled.
 fn settle<D: Disk, R: RecordLog>(log: &mut R, disk: &mut D) -> Result<(), MendError>
     requires standing { (R.content log.old).standing ≡ looked_at → ⊥ }
-    requires backed { Backed R.stands (D.image disk.old) (R.content log.old) }
+    requires backed { IsBackedOn R.RecordLog D.Disk disk.old (R.content log.old) }
     ensures ok { OnOk result ((R.content log.new).standing ≡ settled) }
     ensures err { IfErr result (λ e. e ≡ MendError.Fault) }
     ensures content { MayHaveSettled (R.content log.old) (R.content log.new) }
     ensures found { D.tells → OnOk result (R.stands (R.content log.old).key (D.seen disk.old) (R.content log.new).batches) }
     ensures unfound { OnErr result ((R.content log.new).standing ≡ settled → ⊥) }
-    ensures backed { Backed R.stands (D.image disk.new) (R.content log.new) }
+    ensures backed { IsBackedOn R.RecordLog D.Disk disk.new (R.content log.new) }
     ensures images { After D.Disk (Settles R.mine R.stands (R.content log.old)) disk.old disk.new }
     ensures others { ChangesOnly (R.mine (R.content log.old).key) (D.seen disk.old) (D.seen disk.new) }
     ensures cause { FaultsIn D.Disk (R.content log.old).key.part disk.old disk.new (result ≡ Err MendError.Fault) }

@@ -1,8 +1,9 @@
 //! Publishing messages to a topic.
+ghost use Rattle.txn_ledger.specs.Reading.{IsBackedOn};
 ghost use Rattle.std.specs.Prelude.{◌≡◌, ◌<◌, ◌≤◌, ◌+◌, ◌↔◌, ℕ, IsTrue, [], None, Some, Ok, Err, length, map, All, IfOk, OnOk};
 ghost use Rattle.txn_base.specs.declared.file_id.FileId.{FileId};
 ghost use Rattle.txn_base.specs.Bytes.{contents_of};
-ghost use Rattle.txn_base.specs.Content.{Backed, Appends};
+ghost use Rattle.txn_base.specs.Content.{Appends};
 ghost use Rattle.txn_base.specs.Disk.{ChangesOnly};
 ghost use Rattle.txn_base.specs.Frames.{frame};
 ghost use Rattle.txn_base.specs.Decoded.{topic_entry_of};
@@ -27,7 +28,7 @@ impl<R: RecordLog> Topic<R> {
     pub fn publish<D: Disk>(&mut self, disk: &mut D, bodies: &[Bytes]) -> Result<u64, TopicError>
         requires whole { IsTrue self.old.whole }
         requires bodies { AreBodies self.old.limits (contents_of bodies.now) }
-        requires backed { Backed R.stands (D.image disk.old) self.old.content }
+        requires backed { IsBackedOn R.RecordLog D.Disk disk.old self.old.content }
         ensures first { IfOk result (λ place. place ≡ topic_total self.old) }
         ensures ok { OnOk result (self.new ≡ with_entries self.old (messages_of None (contents_of bodies.now)) self.old.reserved) }
         ensures full { (result ≡ Err (TopicError.Full (topic_total self.old))) ↔ (self.old.limits.log < topic_total self.old + length bodies.now) }
@@ -37,7 +38,7 @@ impl<R: RecordLog> Topic<R> {
         ensures refused { (count : ℕ) → result ≡ Err (TopicError.Full count) → (self.new ≡ self.old) × (disk.new ≡ disk.old) }
         ensures no_memory { result ≡ Err TopicError.NoMemory → (self.new ≡ self.old) × (disk.new ≡ disk.old) }
         ensures tied { IsFrontOf self.old → IsFrontOf self.new }
-        ensures backed { Backed R.stands (D.image disk.new) self.new.content }
+        ensures backed { IsBackedOn R.RecordLog D.Disk disk.new self.new.content }
         ensures images { After D.Disk (Appends R.mine R.stands self.old.content (topic_batch (messages_of None (contents_of bodies.now)))) disk.old disk.new }
         ensures others { ChangesOnly (R.mine self.old.content.key) (D.seen disk.old) (D.seen disk.new) }
         ensures cause { FaultsIn D.Disk self.old.content.key.part disk.old disk.new (result ≡ Err TopicError.Fault) }
@@ -55,7 +56,7 @@ impl<R: RecordLog> Topic<R> {
         requires whole { IsTrue self.old.whole }
         requires unmarked { marker_of (topic_skeletons self.old.front) txn ≡ None }
         requires bodies { AreBodies self.old.limits (contents_of bodies.now) }
-        requires backed { Backed R.stands (D.image disk.old) self.old.content }
+        requires backed { IsBackedOn R.RecordLog D.Disk disk.old self.old.content }
         ensures first { IfOk result (λ place. place ≡ topic_total self.old) }
         ensures ok { OnOk result (self.new ≡ with_entries self.old (messages_of (Some txn) (contents_of bodies.now)) self.old.reserved) }
         ensures full { (result ≡ Err (TopicError.Full (topic_total self.old))) ↔ (self.old.limits.log < topic_total self.old + length bodies.now) }
@@ -65,7 +66,7 @@ impl<R: RecordLog> Topic<R> {
         ensures refused { (count : ℕ) → result ≡ Err (TopicError.Full count) → (self.new ≡ self.old) × (disk.new ≡ disk.old) }
         ensures no_memory { result ≡ Err TopicError.NoMemory → (self.new ≡ self.old) × (disk.new ≡ disk.old) }
         ensures tied { IsFrontOf self.old → IsFrontOf self.new }
-        ensures backed { Backed R.stands (D.image disk.new) self.new.content }
+        ensures backed { IsBackedOn R.RecordLog D.Disk disk.new self.new.content }
         ensures images { After D.Disk (Appends R.mine R.stands self.old.content (topic_batch (messages_of (Some txn) (contents_of bodies.now)))) disk.old disk.new }
         ensures others { ChangesOnly (R.mine self.old.content.key) (D.seen disk.old) (D.seen disk.new) }
         ensures cause { FaultsIn D.Disk self.old.content.key.part disk.old disk.new (result ≡ Err TopicError.Fault) }
@@ -82,7 +83,7 @@ impl<R: RecordLog> Topic<R> {
         requires whole { IsTrue self.old.whole }
         requires unmarked { IsUnmarked self.old.front txn }
         requires bodies { AreBodies self.old.limits (contents_of bodies.now) }
-        requires backed { Backed R.stands (D.image disk.old) self.old.content }
+        requires backed { IsBackedOn R.RecordLog D.Disk disk.old self.old.content }
         ensures first { IfOk result (λ place. place ≡ topic_total self.old) }
         ensures ok { OnOk result (self.new ≡ with_entries self.old (messages_of txn (contents_of bodies.now)) self.old.reserved) }
         ensures full { (result ≡ Err (TopicError.Full (topic_total self.old))) ↔ (self.old.limits.log < topic_total self.old + length bodies.now) }
@@ -92,7 +93,7 @@ impl<R: RecordLog> Topic<R> {
         ensures refused { (count : ℕ) → result ≡ Err (TopicError.Full count) → (self.new ≡ self.old) × (disk.new ≡ disk.old) }
         ensures no_memory { result ≡ Err TopicError.NoMemory → (self.new ≡ self.old) × (disk.new ≡ disk.old) }
         ensures tied { IsFrontOf self.old → IsFrontOf self.new }
-        ensures backed { Backed R.stands (D.image disk.new) self.new.content }
+        ensures backed { IsBackedOn R.RecordLog D.Disk disk.new self.new.content }
         ensures images { After D.Disk (Appends R.mine R.stands self.old.content (topic_batch (messages_of txn (contents_of bodies.now)))) disk.old disk.new }
         ensures others { ChangesOnly (R.mine self.old.content.key) (D.seen disk.old) (D.seen disk.new) }
         ensures cause { FaultsIn D.Disk self.old.content.key.part disk.old disk.new (result ≡ Err TopicError.Fault) }

@@ -1,7 +1,7 @@
 //! Reading the visible messages of a topic.
+ghost use Rattle.txn_ledger.specs.Reading.{ReadsOn};
 ghost use Rattle.std.specs.Prelude.{◌≡◌, ◌<◌, ◌≤◌, ◌+◌, ◌-◌, ℕ, Err, length, slice_index_or, IfOk, [], None};
 ghost use Rattle.txn_base.specs.declared.entry.TopicEntry.{TopicEntry};
-ghost use Rattle.txn_base.specs.Content.{Backed};
 ghost use Rattle.txn_base.specs.Decoded.{topic_entry_of};
 ghost use Rattle.txn_base.specs.Disk.{Same};
 ghost use Rattle.txn_base.specs.Frames.{records};
@@ -38,7 +38,7 @@ impl<R: RecordLog> Topic<R> {
         steps: &mut Steps<L>,
     ) -> Result<Messages, TopicError>
         requires max { 1 ≤ max }
-        requires backed { Backed R.stands (D.image disk.old) self.now.content }
+        requires reads { ReadsOn R.RecordLog D.Disk disk.old self.now.content }
         ensures slice { D.tells → IsFrontOf self.now → IfOk result (λ messages. messages ≡ read_slice self.now.limits self.now.front first max) }
         ensures undamaged { (place : ℕ) → D.tells → IsFrontOf self.now → result ≡ Err (TopicError.Damaged place) → ⊥ }
         ensures damaged { (place : ℕ) → result ≡ Err (TopicError.Damaged place) → D.tells → IsOutside (slice_index_or (records self.now.content.batches) place []) }
@@ -48,7 +48,6 @@ impl<R: RecordLog> Topic<R> {
         ensures steps_least { steps.old ≤ steps.new }
         ensures steps_next { D.tells → IsFrontOf self.now → IfOk result (λ messages. ReadsUpTo self.now.front first messages (steps.new - steps.old)) }
         ensures seen { D.seen disk.new ≡ D.seen disk.old }
-        ensures backed { Backed R.stands (D.image disk.new) self.now.content }
         ensures images { After D.Disk Same disk.old disk.new }
         ensures cause { FaultsIn D.Disk self.now.content.key.part disk.old disk.new (result ≡ Err TopicError.Fault) }
     {
@@ -73,7 +72,7 @@ impl<R: RecordLog> Topic<R> {
         steps: &mut Steps<L>,
     ) -> Result<Option<Message>, TopicError>
         requires place { place < length self.now.front }
-        requires backed { Backed R.stands (D.image disk.old) self.now.content }
+        requires reads { ReadsOn R.RecordLog D.Disk disk.old self.now.content }
         ensures shown { D.tells → IsFrontOf self.now → IfOk result (λ found. (d : TopicEntry) → found ≡ shows (topic_skeletons self.now.front) place (slice_index_or self.now.front place d)) }
         ensures damaged { (at : ℕ) → result ≡ Err (TopicError.Damaged at) → at ≡ place }
         ensures outside { (at : ℕ) → result ≡ Err (TopicError.Damaged at) → D.tells → IsOutside (slice_index_or (records self.now.content.batches) place []) }
@@ -82,7 +81,7 @@ impl<R: RecordLog> Topic<R> {
         ensures counted { steps.new ≡ steps.old + 1 }
         ensures reads { OnlyReads D.Disk self.now.content.key.part (result ≡ Err TopicError.Fault) disk.old disk.new }
     {
-        match self.log.get(self.alloc, disk, place, steps) {
+        match self.log.get(disk, place, steps) {
             Ok(bytes) => self.shown_of(&bytes, place),
             Err(GetError::Fault) => Err(TopicError::Fault),
             Err(GetError::NoMemory) => Err(TopicError::NoMemory),

@@ -1,7 +1,8 @@
 //! The calls that add an entry.
+ghost use Rattle.txn_ledger.specs.Reading.{IsBackedOn};
 ghost use Rattle.std.specs.Prelude.{◌≡◌, ◌≤◌, ◌+◌, ◌^◌, true, false, None, Err, IsTrue, IsOk, IfOk, IfErr, OnOk, OnErr, MatchOption};
 ghost use Rattle.txn_base.specs.declared.file_id.FileId.{FileId};
-ghost use Rattle.txn_base.specs.Content.{Backed, Appends};
+ghost use Rattle.txn_base.specs.Content.{Appends};
 ghost use Rattle.txn_base.specs.Disk.{ChangesOnly};
 ghost use Rattle.txn_base.specs.Records.{IsCoordEntry};
 ghost use Rattle.txn_base.specs.Moves.{After, FailsIn, FaultsIn};
@@ -36,14 +37,14 @@ impl<R: RecordLog> Coordinator<R> {
         requires whole { IsTrue (self.old).whole }
         requires fits { IsCoordEntry entry }
         requires allowed { coord_allows 62 (coord_skeletons (self.old).front) (coord_skeleton entry) ≡ true }
-        requires backed { Backed R.stands (D.image disk.old) (self.old).content }
+        requires backed { IsBackedOn R.RecordLog D.Disk disk.old (self.old).content }
         ensures failed { MayFail result }
         ensures ok { OnOk result (self.new ≡ with_entry self.old entry) }
         ensures fault { result ≡ Err CoordError.Fault → self.new ≡ with_failed_entry self.old entry }
         ensures no_memory { result ≡ Err CoordError.NoMemory → self.new ≡ self.old }
         ensures unwritten { result ≡ Err CoordError.NoMemory → disk.new ≡ disk.old }
         ensures tied { IsFrontOf self.old → IsFrontOf self.new }
-        ensures backed { Backed R.stands (D.image disk.new) (self.new).content }
+        ensures backed { IsBackedOn R.RecordLog D.Disk disk.new (self.new).content }
         ensures images { After D.Disk (Appends R.mine R.stands (self.old).content (coord_batch entry)) disk.old disk.new }
         ensures others { ChangesOnly (R.mine (self.old).content.key) (D.seen disk.old) (D.seen disk.new) }
         ensures cause { FaultsIn D.Disk (self.old).content.key.part disk.old disk.new (result ≡ Err CoordError.Fault) }
@@ -84,7 +85,7 @@ impl<R: RecordLog> Coordinator<R> {
     ) -> Result<TxnId, CoordError>
         requires whole { IsTrue (self.old).whole }
         requires now { now ≤ 2 ^ 62 }
-        requires backed { Backed R.stands (D.image disk.old) (self.old).content }
+        requires backed { IsBackedOn R.RecordLog D.Disk disk.old (self.old).content }
         ensures refused { MatchOption (begin_refusal self.old timeout) (MayFail result) (λ refusal. result ≡ Err refusal) }
         ensures told { IfOk result (λ txn. txn ≡ next_txn self.old) }
         ensures ok { OnOk result (self.new ≡ with_entry self.old (CoordEntry.New (next_txn self.old) (now + timeout))) }
@@ -92,7 +93,7 @@ impl<R: RecordLog> Coordinator<R> {
         ensures same { IfErr result (λ e. (e ≡ CoordError.Fault → ⊥) → self.new ≡ self.old) }
         ensures unwritten { IfErr result (λ e. (e ≡ CoordError.Fault → ⊥) → disk.new ≡ disk.old) }
         ensures tied { IsFrontOf self.old → IsFrontOf self.new }
-        ensures backed { Backed R.stands (D.image disk.new) (self.new).content }
+        ensures backed { IsBackedOn R.RecordLog D.Disk disk.new (self.new).content }
         ensures images { After D.Disk (Appends R.mine R.stands (self.old).content (coord_batch (CoordEntry.New (next_txn self.old) (now + timeout)))) disk.old disk.new }
         ensures others { ChangesOnly (R.mine (self.old).content.key) (D.seen disk.old) (D.seen disk.new) }
         ensures cause { FaultsIn D.Disk (self.old).content.key.part disk.old disk.new (result ≡ Err CoordError.Fault) }
@@ -112,7 +113,7 @@ impl<R: RecordLog> Coordinator<R> {
         requires whole { IsTrue (self.old).whole }
         requires least { 1 ≤ part }
         requires most { part ≤ 62 }
-        requires backed { Backed R.stands (D.image disk.old) (self.old).content }
+        requires backed { IsBackedOn R.RecordLog D.Disk disk.old (self.old).content }
         ensures refused { MatchOption (add_refusal self.old txn part) (MayFail result) (λ refusal. result ≡ Err refusal) }
         ensures repeated { add_refusal self.old txn part ≡ None → has_part self.old txn part ≡ true → IsOk result }
         ensures nothing { has_part self.old txn part ≡ true → disk.new ≡ disk.old }
@@ -121,7 +122,7 @@ impl<R: RecordLog> Coordinator<R> {
         ensures same { IfErr result (λ e. (e ≡ CoordError.Fault → ⊥) → self.new ≡ self.old) }
         ensures unwritten { IfErr result (λ e. (e ≡ CoordError.Fault → ⊥) → disk.new ≡ disk.old) }
         ensures tied { IsFrontOf self.old → IsFrontOf self.new }
-        ensures backed { Backed R.stands (D.image disk.new) (self.new).content }
+        ensures backed { IsBackedOn R.RecordLog D.Disk disk.new (self.new).content }
         ensures images { After D.Disk (Appends R.mine R.stands (self.old).content (coord_batch (CoordEntry.AddPart txn part))) disk.old disk.new }
         ensures others { ChangesOnly (R.mine (self.old).content.key) (D.seen disk.old) (D.seen disk.new) }
         ensures cause { FaultsIn D.Disk (self.old).content.key.part disk.old disk.new (result ≡ Err CoordError.Fault) }
@@ -143,7 +144,7 @@ impl<R: RecordLog> Coordinator<R> {
         decision: Decision,
     ) -> Result<Status, CoordError>
         requires whole { IsTrue (self.old).whole }
-        requires backed { Backed R.stands (D.image disk.old) (self.old).content }
+        requires backed { IsBackedOn R.RecordLog D.Disk disk.old (self.old).content }
         ensures refused { MatchOption (decide_refusal self.old txn decision) (MayFail result) (λ refusal. result ≡ Err refusal) }
         ensures repeated { decide_refusal self.old txn decision ≡ None → is_open (status_in_view self.old txn) ≡ false → IsOk result }
         ensures nothing { is_open (status_in_view self.old txn) ≡ false → disk.new ≡ disk.old }
@@ -153,7 +154,7 @@ impl<R: RecordLog> Coordinator<R> {
         ensures same { IfErr result (λ e. (e ≡ CoordError.Fault → ⊥) → self.new ≡ self.old) }
         ensures unwritten { IfErr result (λ e. (e ≡ CoordError.Fault → ⊥) → disk.new ≡ disk.old) }
         ensures tied { IsFrontOf self.old → IsFrontOf self.new }
-        ensures backed { Backed R.stands (D.image disk.new) (self.new).content }
+        ensures backed { IsBackedOn R.RecordLog D.Disk disk.new (self.new).content }
         ensures images { After D.Disk (Appends R.mine R.stands (self.old).content (coord_batch (decision_entry txn decision))) disk.old disk.new }
         ensures others { ChangesOnly (R.mine (self.old).content.key) (D.seen disk.old) (D.seen disk.new) }
         ensures cause { FaultsIn D.Disk (self.old).content.key.part disk.old disk.new (result ≡ Err CoordError.Fault) }
@@ -188,11 +189,11 @@ impl<R: RecordLog> Coordinator<R> {
         requires whole { IsTrue (self.old).whole }
         requires reserved { (self.old).reserved ≡ 1 }
         requires undriven { is_undriven (status_in_view self.old txn) ≡ true }
-        requires backed { Backed R.stands (D.image disk.old) (self.old).content }
+        requires backed { IsBackedOn R.RecordLog D.Disk disk.old (self.old).content }
         ensures ok { OnOk result (self.new ≡ reserving 0 (with_entry self.old (closing_of_view self.old txn))) }
         ensures fault { OnErr result (self.new ≡ with_failed_entry self.old (closing_of_view self.old txn)) }
         ensures tied { IsFrontOf self.old → IsFrontOf self.new }
-        ensures backed { Backed R.stands (D.image disk.new) (self.new).content }
+        ensures backed { IsBackedOn R.RecordLog D.Disk disk.new (self.new).content }
         ensures images { After D.Disk (Appends R.mine R.stands (self.old).content (coord_batch (closing_of_view self.old txn))) disk.old disk.new }
         ensures others { ChangesOnly (R.mine (self.old).content.key) (D.seen disk.old) (D.seen disk.new) }
         ensures cause { FailsIn D.Disk (self.old).content.key.part disk.old disk.new result }

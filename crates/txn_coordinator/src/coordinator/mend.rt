@@ -1,7 +1,8 @@
 //! The replay of the log, in steps.
+ghost use Rattle.txn_ledger.specs.Reading.{IsBackedOn};
 ghost use Rattle.std.specs.Prelude.{◌≡◌, ◌≤◌, ◌<◌, ◌+◌, ℕ, length, Err, IsErr, IsTrue, IsOk, IfOk, IfErr, OnOk, OnErr, if◌then◌else◌};
 ghost use Rattle.txn_base.specs.declared.file_id.FileId.{FileId};
-ghost use Rattle.txn_base.specs.Content.{settled, looked_at, Backed, Settles};
+ghost use Rattle.txn_base.specs.Content.{settled, looked_at, Settles};
 ghost use Rattle.txn_base.specs.Disk.{ChangesOnly};
 ghost use Rattle.txn_base.specs.Moves.{After, FaultsIn};
 ghost use Rattle.txn_coordinator.specs.Mending.{AreRecordsTo, AreReplayed, IsFirstBadRecord, IsSettledFrom, Mends, IsRefusedStep};
@@ -20,12 +21,12 @@ use txn_ledger::RecordLog;
 /// Settles a log that isn't settled.
 fn settle_log<D: Disk, R: RecordLog>(log: &mut R, disk: &mut D) -> Result<(), Failed>
     requires standing { (R.content log.old).standing ≡ looked_at → ⊥ }
-    requires backed { Backed R.stands (D.image disk.old) (R.content log.old) }
+    requires backed { IsBackedOn R.RecordLog D.Disk disk.old (R.content log.old) }
     ensures ok { OnOk result (IsSettledFrom (R.content log.old) (R.content log.new)) }
     ensures err { OnErr result (R.content log.new ≡ R.content log.old) }
     ensures found { D.tells → OnOk result (R.stands (R.content log.old).key (D.seen disk.old) (R.content log.new).batches) }
     ensures unfound { OnErr result ((R.content log.new).standing ≡ settled → ⊥) }
-    ensures backed { Backed R.stands (D.image disk.new) (R.content log.new) }
+    ensures backed { IsBackedOn R.RecordLog D.Disk disk.new (R.content log.new) }
     ensures images { After D.Disk (Settles R.mine R.stands (R.content log.old)) disk.old disk.new }
     ensures others { ChangesOnly (R.mine (R.content log.old).key) (D.seen disk.old) (D.seen disk.new) }
     ensures cause { FaultsIn D.Disk (R.content log.old).key.part disk.old disk.new (IsErr result) }
@@ -51,17 +52,15 @@ fn opening_low(before: u64, was_whole: bool, whole: bool, table: &Table) -> u64
 
 impl<R: RecordLog> Coordinator<R> {
     /// Settles the log, and adds the entries of its next records: `step` of them, or all that are left. Each is read once.
-    /// An entry that adds a part above `named`, the number of parts that have a name, isn't allowed. A step that is refused
-    /// adds none. On a coordinator that is whole it does nothing.
+    /// An entry that adds a part that has no name isn't allowed. A step that is refused adds none. On a coordinator that is
+    /// whole it does nothing.
     pub fn mend_step<D: Disk, L: ledger::Ledger>(
         &mut self,
         disk: &mut D,
-        named: u32,
         steps: &mut Steps<L>,
     ) -> Result<Progress, MendError>
-        requires named { named ≤ 62 }
         requires standing { (self.old).content.standing ≡ looked_at → ⊥ }
-        requires backed { Backed R.stands (D.image disk.old) (self.old).content }
+        requires backed { IsBackedOn R.RecordLog D.Disk disk.old (self.old).content }
         ensures already { IsTrue (self.old).whole → IsOk result }
         ensures nothing { IsTrue (self.old).whole → self.new ≡ self.old }
         ensures idle { IsTrue (self.old).whole → (disk.new ≡ disk.old) × (steps.new ≡ steps.old) }
@@ -75,13 +74,13 @@ impl<R: RecordLog> Coordinator<R> {
         ensures found { D.tells → (self.new).content.standing ≡ settled → R.stands (self.old).content.key (D.seen disk.old) (self.new).content.batches }
         ensures read { D.tells → OnOk result (AreRecordsTo (self.new).content (length (self.old).front) (length (self.new).front) (self.new).front) }
         ensures damaged { (place : ℕ) → result ≡ Err (MendError.Damaged place) → (length (self.old).front ≤ place) × (place < length (self.old).front + (self.old).limits.step) }
-        ensures bad { D.tells → AreReplayed named (self.old).content (self.old).front → (place : ℕ) → result ≡ Err (MendError.Damaged place) → IsFirstBadRecord named (self.new).content place }
+        ensures bad { D.tells → AreReplayed (self.old).named (self.old).content (self.old).front → (place : ℕ) → result ≡ Err (MendError.Damaged place) → IsFirstBadRecord (self.old).named (self.new).content place }
         ensures counted { OnOk result (steps.new + length (self.old).front ≡ steps.old + length (self.new).front) }
         ensures few { steps.new ≤ steps.old + (self.old).limits.step }
         ensures tied { D.tells → IsFrontOf self.old → IsFrontOf self.new }
-        ensures replayed { D.tells → AreReplayed named (self.old).content (self.old).front → AreReplayed named (self.new).content (self.new).front }
-        ensures lawful { CoordLawful named (coord_skeletons (self.old).front) → CoordLawful named (coord_skeletons (self.new).front) }
-        ensures backed { Backed R.stands (D.image disk.new) (self.new).content }
+        ensures replayed { D.tells → AreReplayed (self.old).named (self.old).content (self.old).front → AreReplayed (self.old).named (self.new).content (self.new).front }
+        ensures lawful { CoordLawful (self.old).named (coord_skeletons (self.old).front) → CoordLawful (self.old).named (coord_skeletons (self.new).front) }
+        ensures backed { IsBackedOn R.RecordLog D.Disk disk.new (self.new).content }
         ensures images { After D.Disk (Settles R.mine R.stands (self.old).content) disk.old disk.new }
         ensures others { ChangesOnly (R.mine (self.old).content.key) (D.seen disk.old) (D.seen disk.new) }
         ensures cause { FaultsIn D.Disk (self.old).content.key.part disk.old disk.new (result ≡ Err MendError.Fault) }
@@ -103,7 +102,7 @@ impl<R: RecordLog> Coordinator<R> {
             self.alloc,
             &self.log,
             &mut self.table,
-            named,
+            self.named,
             disk,
             self.at,
             end,

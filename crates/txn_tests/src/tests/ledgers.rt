@@ -1,6 +1,6 @@
 //! Ledgers over files in memory.
+ghost use Rattle.txn_ledger.specs.Reading.{IsBackedOn};
 ghost use Rattle.std.specs.Prelude.{◌≡◌};
-ghost use Rattle.txn_base.specs.Content.{Backed};
 
 use super::files::{TOPIC, disk_of};
 use std::alloc::{AllocError, Global};
@@ -12,18 +12,17 @@ use txn_memdisk::{FaultAt, MemDisk, Op};
 
 /// The record at a place, where there is one.
 fn record_at<D: Disk, R: RecordLog, L: ledger::Ledger>(
-    alloc: Global,
     log: &R,
     disk: &mut D,
     place: u64,
     steps: &mut Steps<L>,
 ) -> Option<Result<Bytes, GetError>>
-    requires backed { Backed R.stands (D.image disk.old) (R.content log.now) }
+    requires backed { IsBackedOn R.RecordLog D.Disk disk.old (R.content log.now) }
 {
     if place >= log.len() {
         return None;
     }
-    Some(log.get(alloc, disk, place, steps))
+    Some(log.get(disk, place, steps))
 }
 
 /// How many records a ledger has, and the one at a place.
@@ -41,7 +40,7 @@ fn opened_record<L: ledger::Ledger>(
 {
     let log = Ledger::open_file(alloc, disk, TOPIC)?;
     let mut steps = Steps::<L>::new(blank);
-    let found = record_at(alloc, &log, disk, place, &mut steps);
+    let found = record_at(&log, disk, place, &mut steps);
     Ok((log.len(), found))
 }
 

@@ -1,7 +1,8 @@
 //! What a coordinator replays of small logs, and steps of a replay that are refused at their fortieth record.
+ghost use Rattle.txn_ledger.specs.Reading.{IsBackedOn};
 ghost use Rattle.std.specs.Prelude.{◌≡◌, ◌≤◌, IfSome};
-ghost use Rattle.txn_base.specs.Content.{Backed, looked_at};
-ghost use Rattle.txn_ledger.specs.Ledger.{StandsIn};
+ghost use Rattle.txn_base.specs.Content.{looked_at};
+ghost use Rattle.txn_ledger.specs.Ledger.{Stored};
 
 use super::files::{LOG, Short, disk_of, log_file, txn};
 use std::alloc::{AllocError, Global};
@@ -24,13 +25,14 @@ const ABORTING: u8 = 5;
 
 const ABORTED: u8 = 6;
 
-/// Opens the log.
-fn opened<D: Disk>(alloc: Global, disk: &mut D) -> Option<Coordinator<Ledger>>
+/// Opens the log, where so many parts are named.
+fn opened<D: Disk>(alloc: Global, disk: &mut D, named: u32) -> Option<Coordinator<Ledger>>
+    requires named { named ≤ 62 }
     ensures standing { IfSome result (λ c. c.content.standing ≡ looked_at → ⊥) }
-    ensures backed { IfSome result (λ c. Backed StandsIn (D.image disk.new) c.content) }
+    ensures backed { IfSome result (λ c. Stored (D.image disk.new) c.content) }
 {
     let log = Ledger::open_file(alloc, disk, LOG).ok()?;
-    Coordinator::over(alloc, log, &Limits::standard()).ok()
+    Coordinator::over_named(alloc, log, &Limits::standard(), named).ok()
 }
 
 /// What a step of the replay told, how far it is then, and how many transactions there are.
@@ -39,16 +41,14 @@ type Stepped = (Result<Progress, MendError>, PartState, u64);
 fn step<D: Disk, R: RecordLog, L: ledger::Ledger>(
     coordinator: &mut Coordinator<R>,
     disk: &mut D,
-    named: u32,
     steps: &mut Steps<L>,
 ) -> Stepped
-    requires named { named ≤ 62 }
     requires standing { coordinator.old.content.standing ≡ looked_at → ⊥ }
-    requires backed { Backed R.stands (D.image disk.old) coordinator.old.content }
+    requires backed { IsBackedOn R.RecordLog D.Disk disk.old coordinator.old.content }
     ensures standing { coordinator.new.content.standing ≡ looked_at → ⊥ }
-    ensures backed { Backed R.stands (D.image disk.new) coordinator.new.content }
+    ensures backed { IsBackedOn R.RecordLog D.Disk disk.new coordinator.new.content }
 {
-    let told = coordinator.mend_step(disk, named, steps);
+    let told = coordinator.mend_step(disk, steps);
     (told, coordinator.state(), coordinator.count())
 }
 
@@ -65,10 +65,10 @@ fn three_steps<L: ledger::Ledger>(
     requires one { L.parts ≡ 1 }
 {
     let mut steps = Steps::<L>::new(blank);
-    let mut coordinator = opened(alloc, disk)?;
-    let first = step(&mut coordinator, disk, named, &mut steps);
-    let second = step(&mut coordinator, disk, named, &mut steps);
-    let third = step(&mut coordinator, disk, named, &mut steps);
+    let mut coordinator = opened(alloc, disk, named)?;
+    let first = step(&mut coordinator, disk, &mut steps);
+    let second = step(&mut coordinator, disk, &mut steps);
+    let third = step(&mut coordinator, disk, &mut steps);
     Some((first, second, third))
 }
 
@@ -232,9 +232,9 @@ fn replayed<L: ledger::Ledger>(
     requires parts { blank.parts ≡ L.parts }
     requires one { L.parts ≡ 1 }
 {
-    let mut coordinator = opened(alloc, disk)?;
+    let mut coordinator = opened(alloc, disk, 62)?;
     let mut steps = Steps::<L>::new(blank);
-    let mended = coordinator.mend_step(disk, 62, &mut steps).is_ok();
+    let mended = coordinator.mend_step(disk, &mut steps).is_ok();
     let counted = (
         coordinator.count(),
         coordinator.low(),

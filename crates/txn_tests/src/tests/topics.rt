@@ -1,7 +1,8 @@
 //! Topics: what is replayed of small ledgers, and steps of a replay that are refused at their fortieth record.
+ghost use Rattle.txn_ledger.specs.Reading.{IsBackedOn};
 ghost use Rattle.std.specs.Prelude.{◌≡◌, IfSome};
-ghost use Rattle.txn_base.specs.Content.{Backed, looked_at};
-ghost use Rattle.txn_ledger.specs.Ledger.{StandsIn};
+ghost use Rattle.txn_base.specs.Content.{looked_at};
+ghost use Rattle.txn_ledger.specs.Ledger.{Stored};
 
 use super::files::{Short, TOPIC, disk_of, topic_file, txn};
 use std::alloc::{AllocError, Global};
@@ -23,7 +24,7 @@ const ABORT: u8 = 4;
 /// Opens the ledger.
 fn opened<D: Disk>(alloc: Global, disk: &mut D) -> Option<Topic<Ledger>>
     ensures standing { IfSome result (λ t. t.content.standing ≡ looked_at → ⊥) }
-    ensures backed { IfSome result (λ t. Backed StandsIn (D.image disk.new) t.content) }
+    ensures backed { IfSome result (λ t. Stored (D.image disk.new) t.content) }
 {
     let log = Ledger::open_file(alloc, disk, TOPIC).ok()?;
     Topic::over(alloc, log, 1, &Limits::standard()).ok()
@@ -38,9 +39,9 @@ fn step<D: Disk, R: RecordLog, L: ledger::Ledger>(
     steps: &mut Steps<L>,
 ) -> Stepped
     requires standing { topic.old.content.standing ≡ looked_at → ⊥ }
-    requires backed { Backed R.stands (D.image disk.old) topic.old.content }
+    requires backed { IsBackedOn R.RecordLog D.Disk disk.old topic.old.content }
     ensures standing { topic.new.content.standing ≡ looked_at → ⊥ }
-    ensures backed { Backed R.stands (D.image disk.new) topic.new.content }
+    ensures backed { IsBackedOn R.RecordLog D.Disk disk.new topic.new.content }
 {
     let told = topic.mend_step(disk, steps);
     (told, topic.state(), topic.limit())
@@ -52,8 +53,8 @@ fn read_63<D: Disk, R: RecordLog, L: ledger::Ledger>(
     disk: &mut D,
     steps: &mut Steps<L>,
 ) -> Option<u64>
-    requires { Backed R.stands (D.image disk.old) topic.now.content }
-    ensures { Backed R.stands (D.image disk.new) topic.now.content }
+    requires backed { IsBackedOn R.RecordLog D.Disk disk.old topic.now.content }
+    ensures backed { IsBackedOn R.RecordLog D.Disk disk.new topic.now.content }
 {
     let messages = topic.read(disk, 63, 1, steps).ok()?;
     let first = messages.as_slice().first()?;

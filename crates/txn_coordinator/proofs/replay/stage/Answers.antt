@@ -1,13 +1,14 @@
 use Rattle.std.proofs.Common.{◌≡◌, ℕ, ◌+◌, ◌<◌, ◌++◌, [], ◌∷◌, List, true, false, arith, length, length-append, take, ap, sym, ◌∙◌, subst}
 use Rattle.txn_base.specs.declared.entry.CoordEntry.{CoordEntry}
 use Rattle.txn_base.specs.Decoded.{coord_entries}
+use Rattle.txn_base.specs.Disk.{Files}
 use Rattle.txn_base.specs.Frames.{records}
 use Rattle.txn_model.specs.Skeletons.{coord_skeleton, coord_skeletons}
 use Rattle.txn_model.specs.Coord.{coord_allows, CoordLawful}
 use Rattle.txn_coordinator.specs.Mending.{AreRecordsFrom, AreReplayed, IsFirstBadRecord}
 use Rattle.txn_coordinator.specs.Table.{AreEntries}
 use Rattle.txn_coordinator.proofs.Replayed.{entries_next, read_more, tied_next, allowed_few, lawful_next, replayed_next, bad_here, allows_read}
-use Rattle.txn_coordinator.proofs.Steps.{same_then, backed_same, faults_then, faults_quiet}
+use Rattle.txn_coordinator.proofs.Steps.{same_then, faults_then, faults_quiet}
 use Rattle.txn_coordinator.proofs.replay.stage.Goals as goal
 
 pub returns-then-not-allows-clause-bad : goal.returns-then-not-allows-clause-bad
@@ -19,6 +20,10 @@ returns-then-not-allows-clause-bad g c = λ told was place is.
     let count : length (c.args.table.now.front ++ c.loop-place.staged.items) ≡ c.loop-place.place = omega (arith, c.loop-place.invariant.count, c.requires.at, length-append c.args.table.now.front c.loop-place.staged.items) in
     subst (λ (p : ℕ). IsFirstBadRecord c.args.named (g.R.RecordLog.content c.args.log.now) p) here
     (bad_here c.args.named (g.R.RecordLog.content c.args.log.now) c.args.table.now.front c.loop-place.staged.items c.loop-place.place lt count (c.loop-place.invariant.replayed told was) c.in_ok-entry.entry (c.in_ok-entry.ensures.read told) refused)
+
+pub read_entry-requires-clause-reads : goal.read_entry-requires-clause-reads
+read_entry-requires-clause-reads g c = λ told.
+    subst (λ (f : Files). g.R.RecordLog.begins (g.R.RecordLog.content c.args.log.now).key f (g.R.RecordLog.content c.args.log.now).batches) (sym c.loop-place.invariant.seen) (c.requires.reads told)
 
 pub loop-place-preserved : goal.loop-place-preserved
 loop-place-preserved g c =
@@ -41,6 +46,5 @@ loop-place-preserved g c =
       counted = omega (arith, c.loop-place.invariant.counted, c.read_entry.ensures.counted);
       seen = c.read_entry.ensures.seen ∙ c.loop-place.invariant.seen;
       images = same_then g.D.Disk _ _ _ c.loop-place.invariant.images c.read_entry.ensures.images;
-      backed = backed_same g.D.Disk g.R.RecordLog.stands (g.R.RecordLog.content c.args.log.now) _ _ c.read_entry.ensures.images c.loop-place.invariant.backed;
       cause = faults_then _ _ _ _ _ _ _ _ c.loop-place.invariant.cause (faults_quiet _ _ _ _ _ _ c.read_entry.ensures.cause);
     }

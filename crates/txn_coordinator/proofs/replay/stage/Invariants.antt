@@ -1,6 +1,5 @@
 use Rattle.std.proofs.Common.{◌≡◌, ◌+◌, ◌≤◌, ◌++◌, length, take, vec_capacity}
 use Rattle.txn_base.specs.Moves.{After}
-use Rattle.txn_base.specs.Content.{Backed}
 use Rattle.txn_base.specs.Decoded.{coord_entries}
 use Rattle.txn_base.specs.Disk.{Same, CountsFaults}
 use Rattle.txn_coordinator.specs.Mending.{AreRecordsFrom, AreReplayed}
@@ -21,6 +20,5 @@ invariant-loop-place g l = record {
   counted : l.steps + l.at ≡ l.initial.steps + l.place;
   seen : g.D.Disk.seen l.disk ≡ g.D.Disk.seen l.initial.disk;
   images : After g.D.Disk Same l.initial.disk l.disk;
-  backed : Backed g.R.RecordLog.stands (g.D.Disk.image l.disk) (g.R.RecordLog.content l.log);
   cause : CountsFaults (g.R.RecordLog.content l.log).key.part (g.D.Disk.faults l.initial.disk) (g.D.Disk.faults l.disk) (g.D.Disk.part_faults l.initial.disk) (g.D.Disk.part_faults l.disk) ⊥;
 }

@@ -1,5 +1,5 @@
 use Rattle.std.proofs.Common.{rules}
-use Rattle.txn_ledger.proofs.Append.{closed, appends, in_doubt, stands, exact}
+use Rattle.txn_ledger.proofs.Append.{closed, appends, in_doubt, stands}
 use Rattle.txn_ledger.proofs.write.write_batch.Goals as goal
 
 pub write_frame-requires-clause-closed : goal.write_frame-requires-clause-closed
@@ -22,8 +22,3 @@ returns-in_err-write_frame-clause-err g c =
 pub returns-clause-ok : goal.returns-clause-ok
 returns-clause-ok g c =
     stands c.args.carrier.now.content c.requires.settled c.args.end c.requires.ends c.args.file c.requires.file g.D.Disk _ c.requires.batch _ c.requires.tail _ _ c.requires.backed c.write_frame.ensures.images c.in_ok-write_frame.ensures.opened
-
-pub returns-clause-exact : goal.returns-clause-exact
-returns-clause-exact g c = λ told.
-    let at = g.met.D.Disk.seen_is_image c.write_frame.new.disk told in
-    exact c.args.carrier.now.content c.requires.settled c.args.end c.requires.ends c.args.file c.requires.file g.D.Disk _ c.requires.batch _ c.requires.tail _ _ c.requires.backed c.write_frame.ensures.images _ at (c.in_ok-write_frame.ensures.opened _ at)

@@ -1,12 +1,13 @@
-use Rattle.std.proofs.Common.{◌∙◌, inl, inr, refl, sym, ap, Err, subst}
+use Rattle.std.proofs.Common.{◌∙◌, ℕ, List, length, inl, inr, refl, sym, ap, Err, subst}
 use Rattle.std.proofs.KnownBytes.{Keeps-refl}
 use Rattle.txn_model.specs.Replies.{RunState}
+use Rattle.txn_engine.specs.Files.{AreJustFrames}
 use Rattle.txn_run.specs.Going.{run_state}
-use Rattle.txn_run.specs.Run.{Ended, IsEarly, IsAnswered, first_run_state}
-use Rattle.txn_engine.proofs.Laws.{files_then, lists_files, lists_worlds}
+use Rattle.txn_run.specs.Run.{Ended, IsEarly, IsAnswered, IsAtRest, first_run_state}
+use Rattle.txn_engine.proofs.Laws.{files_then, lists_files, lists_worlds, just_frames}
 use Rattle.txn_run.proofs.Counted.{counted_since}
 use Rattle.txn_run.proofs.Keeping.{leaves_then, counts_then, counts_but}
-use Rattle.txn_run.proofs.Running.{opening_above, running_above, running_worlds, image_stands, first_is, leaves_here, early_here, damage_of, fault_of, not_answered}
+use Rattle.txn_run.proofs.Running.{opening_above, running_above, running_worlds, image_stands, first_is, leaves_here, early_here, damage_of, fault_of, not_answered, not_at_rest}
 use Rattle.txn_run.proofs.Undamaged.{lawful_not_damaged}
 use Rattle.txn_run.proofs.program.run_over.Goals as goal
 
@@ -100,3 +101,12 @@ returns-in-Err-clause-grows g c = lists_files g.D.Disk c.args.disk.now c.open_di
 
 pub returns-in-Err-clause-worlds : goal.returns-in-Err-clause-worlds
 returns-in-Err-clause-worlds g c = lists_worlds g.D.Disk c.args.names.items c.args.disk.now c.open_disk.new.disk c.in-Err.ensures.images
+
+pub returns-in-Ok-open_disk-clause-tidy : goal.returns-in-Ok-open_disk-clause-tidy
+returns-in-Ok-open_disk-clause-tidy g c rests image at =
+    let serves = c.run_in.ensures.serves in
+    subst (λ (ns : List (List ℕ)). AreJustFrames (length ns) image) (serves.names ∙ c.in-Ok-open_disk.ensures.opened.0)
+    (just_frames (g.D.Disk.image c.run_in.new.disk) image at c.run_in.new.engine serves.engine (c.run_in.ensures.statuses.1 rests) serves.backed)
+
+pub returns-in-Err-clause-tidy : goal.returns-in-Err-clause-tidy
+returns-in-Err-clause-tidy g c rests image at = absurd (not_at_rest c.in-Err.error (subst IsAtRest c.unopened.ensures rests))

@@ -2,6 +2,7 @@ use Rattle.std.proofs.Common.{◌≡◌, ◌≤◌, ◌++◌, List, length, ap, 
 use Rattle.std.proofs.lemmas.Result.{err_from_is_err_and}
 use Rattle.txn_base.specs.declared.entry.TopicEntry.{TopicEntry}
 use Rattle.txn_base.specs.declared.part.MendError.TheVariants.{Damaged}
+use Rattle.txn_base.proofs.Laws.{begins_with}
 use Rattle.txn_buffer.specs.Mending.{MayHaveSettled}
 use Rattle.txn_buffer.specs.View.{TopicView, IsFrontOf, topic_total}
 use Rattle.txn_buffer.proofs.Staged.{same_error}
@@ -45,3 +46,10 @@ returns-clause-tied g c = λ tells tied.
     tied_same _ _
     (c.add_all.ensures ∙ ap (λ (l : List TopicEntry). c.reserve.new.front.entries ++ l) c.deref.ensures.value ∙ ap (λ (l : List TopicEntry). l ++ c.in_ok-staged.staged.items) c.reserve.ensures.entries) (λ i. content)
     (c.in_ok-staged.ensures.tied tells before)
+
+pub read_step-requires : goal.read_step-requires
+read_step-requires g c = record {
+  reads = λ told.
+      let on = g.R.RecordLog in
+      begins_with on.stands on.exactly on.begins g.met.R.RecordLog.stands_begins (g.D.Disk.image c.settle.new.disk) (on.content c.settle.new.log) c.settle.ensures.backed _ (g.met.D.Disk.seen_is_image _ told);
+}

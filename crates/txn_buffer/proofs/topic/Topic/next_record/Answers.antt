@@ -1,21 +1,17 @@
 use Rattle.std.proofs.Common.{◌≡◌, inl, inr, [], ◌++◌, get_or, ap, sym, ◌∙◌, subst}
 use Rattle.std.proofs.lemmas.List.{get_or_read}
 use Rattle.txn_base.specs.declared.entry.TopicEntry.{TopicEntry}
-use Rattle.txn_base.specs.Content.{Backed}
 use Rattle.txn_base.specs.Decoded.{topic_entry_of}
 use Rattle.txn_base.specs.Frames.{records}
 use Rattle.txn_model.specs.Skeletons.{topic_skeleton, topic_skeletons}
 use Rattle.txn_model.specs.Topic.{part_allows}
 use Rattle.txn_buffer.specs.Record.{IsInGrammar, IsOutside}
 use Rattle.txn_buffer.specs.View.{TopicView}
-use Rattle.txn_buffer.proofs.OnlyReading.{begins_with}
 use Rattle.txn_buffer.proofs.topic.Topic.next_record.Goals as goal
 
 pub get-requires-clause-reads : goal.get-requires-clause-reads
-get-requires-clause-reads g c = λ tells.
-    let content = g.R.RecordLog.content c.self.inside.log in
-    begins_with g.R.RecordLog.stands g.R.RecordLog.begins g.met.R.RecordLog.stands_begins (g.D.Disk.image c.args.disk.now) content (g.D.Disk.seen c.args.disk.now)
-    (subst (λ (v : TopicView). Backed g.R.RecordLog.stands (g.D.Disk.image c.args.disk.now) v.content) (sym c.self.view_is) c.requires.backed) (g.met.D.Disk.seen_is_image c.args.disk.now tells)
+get-requires-clause-reads g c = λ told.
+    subst (λ (v : TopicView). g.R.RecordLog.begins v.content.key (g.D.Disk.seen c.args.disk.now) v.content.batches) (sym c.self.view_is) (c.requires.reads told)
 
 pub returns-in_default-clause-bad : goal.returns-in_default-clause-bad
 returns-in_default-clause-bad g c = λ at same tells.

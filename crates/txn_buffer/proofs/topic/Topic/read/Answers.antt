@@ -1,4 +1,5 @@
 use Rattle.std.proofs.Common.{◌≡◌, ℕ, ◌≤◌, ◌+◌, [], ◌∷◌, ◌++◌, List, min, ap, sym, ◌∙◌, subst, arith}
+use Rattle.txn_base.specs.Disk.{Files}
 use Rattle.txn_base.specs.declared.messages.Message.{Message}
 use Rattle.txn_base.specs.declared.limits.Limits.{Limits}
 use Rattle.txn_base.specs.Decoded.{topic_entry_of}
@@ -85,3 +86,8 @@ returns-clause-steps_next g c = λ tells tied next more e.
     absurd
     (ended_is_all v.limits v.front c.args.first c.args.max s.bytes s.spent s.left s.messages c.loop-place.place c.limit-end.result (sym end) k.none k.from k.to c.loop-place-test.false (k.slice tells tied)
     next more (e ∙ ap (λ (l : List Message). l ++ next ∷ more) c.into_messages-2.ensures))
+
+pub message_at-requires-clause-reads : goal.message_at-requires-clause-reads
+message_at-requires-clause-reads g c = λ told.
+    let v = c.args.self.now in
+    subst (λ (f : Files). g.R.RecordLog.begins v.content.key f v.content.batches) (sym c.loop-place.invariant.reads.seen_same) (c.requires.reads told)

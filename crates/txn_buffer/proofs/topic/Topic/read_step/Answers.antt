@@ -1,6 +1,7 @@
 use Rattle.std.proofs.Common.{◌≡◌, List, [], ◌∷◌, ◌+◌, ◌++◌, true, length, get_or, ap, sym, ◌∙◌, subst, append_assoc, length-append, arith, rules, Err}
 use Rattle.std.specs.Prelude.{Result}
 use Rattle.std.proofs.lemmas.Result.{err_from_is_err_and}
+use Rattle.txn_base.specs.Disk.{Files}
 use Rattle.txn_base.specs.declared.entry.TopicEntry.{TopicEntry}
 use Rattle.txn_base.specs.declared.part.MendError.{MendError}
 use Rattle.txn_base.specs.declared.part.MendError.TheVariants.{Damaged}
@@ -53,3 +54,8 @@ loop-place-preserved g c =
           reads_on g.D.Disk v.content.key.part ⊥ c.args.disk.now c.loop-place.disk c.next_record.new.disk k.reads
           (reads_as g.D.Disk v.content.key.part _ ⊥ c.loop-place.disk c.next_record.new.disk (λ none. absurd none) c.in_ok-record.ensures.reads);
     }
+
+pub next_record-requires-clause-reads : goal.next_record-requires-clause-reads
+next_record-requires-clause-reads g c = λ told.
+    let v = c.args.self.now in
+    subst (λ (f : Files). g.R.RecordLog.begins v.content.key f v.content.batches) (sym c.loop-place.invariant.reads.seen_same) (c.requires.reads told)

@@ -1,12 +1,15 @@
 use Rattle.std.proofs.Common.{◌∙◌, sym, ap, subst, refl, ℕ, List, Err}
 use Rattle.txn_base.specs.declared.request.Request.TheVariants as request
+use Rattle.txn_base.proofs.Laws.{begins_with}
+use Rattle.txn_ledger.specs.Ledger.{StandsIn, ExactlyIn, BeginsIn}
+use Rattle.txn_ledger.specs.LedgerLaws.{begins}
 use Rattle.txn_engine.specs.Kept.{IsEngine}
 use Rattle.txn_engine.specs.View.{IsWhole, IsTied, IsBacked, EngineView}
 use Rattle.txn_model.specs.Names.{part_of}
 use Rattle.txn_engine.proofs.AtView.{told_both, goes_both}
 use Rattle.txn_engine.proofs.Damage.{none_told, unknown_sound, unknown_quiet, damage_told}
 use Rattle.txn_engine.proofs.Going.{goes_quiet}
-use Rattle.txn_engine.proofs.Reading.{at_known, tied_at, known_name, unknown_read_told, read_answer, read_fault_answer, read_goes}
+use Rattle.txn_engine.proofs.Reading.{at_known, backed_at, tied_at, known_name, unknown_read_told, read_answer, read_fault_answer, read_goes}
 use Rattle.txn_engine.proofs.TopicRows.{knows, unknown_read, early_read}
 use Rattle.txn_engine.specs.Told.{RoseFor}
 use Rattle.txn_engine.proofs.Faults.{unknown_named, topic_rose}
@@ -108,6 +111,14 @@ returns-in-Err-Damaged-clause-early g c = no_row c.args.self.now c.args.self.now
 
 pub returns-in-Err-Fault-clause-early : goal.returns-in-Err-Fault-clause-early
 returns-in-Err-Fault-clause-early g c = no_row c.args.self.now c.args.self.now refl (request.Read c.args.topic.now c.args.first c.args.max) (reply.No (no.Fault c.fill-in-Err-Fault.result)) (early_read c.args.self.now.limits c.args.self.now c.args.topic.now c.args.first c.args.max c.in-Some.number (ap (λ (v : EngineView). part_of v.names c.args.topic.now) (sym c.self.view_is) ∙ ap (λ (ns : List (List ℕ)). part_of ns c.args.topic.now) (sym c.deref.ensures.value) ∙ sym c.part_of.ensures.value ∙ c.in-Some.is) (topic_kind c.args.self.now (subst IsEngine c.self.view_is c.self.invariant) c.args.topic.now c.in-Some.number (ap (λ (v : EngineView). part_of v.names c.args.topic.now) (sym c.self.view_is) ∙ ap (λ (ns : List (List ℕ)). part_of ns c.args.topic.now) (sym c.deref.ensures.value) ∙ sym c.part_of.ensures.value ∙ c.in-Some.is)))
+
+pub read-requires-clause-reads : goal.read-requires-clause-reads
+read-requires-clause-reads g c = λ told.
+    let known = ap (λ (ns : List (List ℕ)). part_of ns c.args.topic.now) (sym c.deref.ensures.value) ∙ sym c.part_of.ensures.value ∙ c.in-Some.is in
+    let found = knows _ c.self.invariant c.args.topic.now c.in-Some.number known in
+    let image = g.D.Disk.image c.args.disk.now in
+    let backed = backed_at image _ _ _ _ found _ c.index-part.ensures (subst (IsBacked image) (sym c.self.view_is) c.requires.backed) in
+    begins_with StandsIn ExactlyIn BeginsIn begins image c.index-part.result.now.content backed _ (g.met.D.Disk.seen_is_image c.args.disk.now told)
 
 pub returns-in_default-clause-goes : goal.returns-in_default-clause-goes
 returns-in_default-clause-goes g c = goes_quiet g.D.Disk c.unknown_part.result (unknown_quiet c.args.topic.now c.unknown_part.result c.unknown_part.ensures) c.args.self.now c.args.disk.now c.requires.whole c.requires.backed

@@ -1,8 +1,7 @@
 use Rattle.std.proofs.Common.{◌≡◌, ℕ, ◌+◌, ◌∷◌, ◌++◌, [], List, length, All, IsTrue, Err, refl, sym, ap, ◌∙◌, subst, arith, length-append}
 use Rattle.std.proofs.lemmas.List.Elements.{All-push}
 use Rattle.std.proofs.lemmas.Result.{err_from_is_err_and}
-use Rattle.txn_base.specs.Content.{Backed}
-use Rattle.txn_ledger.specs.Ledger.{StandsIn}
+use Rattle.txn_ledger.specs.Ledger.{Stored}
 use Rattle.txn_model.specs.Sound.{ledger_file}
 use Rattle.txn_buffer.specs.View.{TopicView}
 use Rattle.txn_engine.specs.declared.opening.EngineError.TheVariants as engine
@@ -27,8 +26,8 @@ loop-index-preserved g c =
       room = omega (arith, was.room, c.push_reserved.ensures.capacity);
       are = subst (AreTopics c.args.limits.now 1) (sym pushed) (topics_more c.args.limits.now 1 c.loop-index.topics.items topic part (omega (arith, was.count)) was.are now.opened.0);
       whole = subst (All (λ t. IsTrue t.whole)) (sym pushed) (All-push (λ t. IsTrue t.whole) c.loop-index.topics.items topic was.whole now.opened.1);
-      backed = subst (All (λ t. Backed StandsIn (g.D.Disk.image c.open_topic.new.disk) t.content)) (sym pushed)
-          (All-push (λ t. Backed StandsIn (g.D.Disk.image c.open_topic.new.disk) t.content) c.loop-index.topics.items topic
+      backed = subst (All (λ t. Stored (g.D.Disk.image c.open_topic.new.disk) t.content)) (sym pushed)
+          (All-push (λ t. Stored (g.D.Disk.image c.open_topic.new.disk) t.content) c.loop-index.topics.items topic
           (topics_kept g.D.Disk c.loop-index.topics.items c.loop-index.disk c.open_topic.new.disk since was.backed) now.backed);
       told = λ told. subst (All (λ t. IsTopicOf t (g.D.Disk.seen c.args.disk.now t.content.key))) (sym pushed)
           (told_more (g.D.Disk.seen c.args.disk.now) (g.D.Disk.seen c.loop-index.disk) c.loop-index.topics.items topic part now.opened.0.key (was.others part (omega arith)) (now.told told) (was.told told));
