@@ -82,12 +82,11 @@ pub record IsCoordRecord (bytes : List ℕ) (entry : CoordEntry) : Type 0 where
 
 -- ---- A topic's ledger.
 
--- A record of this version.
-abbrev pub topic_record : ℕ → TopicEntry → List ℕ
-topic_record version (topic.Plain body) = version ∷ 1 ∷ body.bytes
-topic_record version (topic.Opened x body) = version ∷ 2 ∷ (txn_bytes x ++ body.bytes)
-topic_record version (topic.Commit x) = version ∷ 3 ∷ txn_bytes x
-topic_record version (topic.Abort x) = version ∷ 4 ∷ txn_bytes x
+abbrev pub topic_record : TopicEntry → List ℕ
+topic_record (topic.Plain body) = 1 ∷ 1 ∷ body.bytes
+topic_record (topic.Opened x body) = 1 ∷ 2 ∷ (txn_bytes x ++ body.bytes)
+topic_record (topic.Commit x) = 1 ∷ 3 ∷ txn_bytes x
+topic_record (topic.Abort x) = 1 ∷ 4 ∷ txn_bytes x
 
 abbrev pub IsTopicEntry : TopicEntry → Type 0
 IsTopicEntry (topic.Plain body) = IsBody body
@@ -95,9 +94,9 @@ IsTopicEntry (topic.Opened x body) = IsTxnId x × IsBody body
 IsTopicEntry (topic.Commit x) = IsTxnId x
 IsTopicEntry (topic.Abort x) = IsTxnId x
 
--- These bytes are the record of this entry, in this version.
-pub record IsTopicRecord (version : ℕ) (bytes : List ℕ) (entry : TopicEntry) : Type 0 where
-  pub bytes_are : bytes ≡ topic_record version entry
+-- These bytes are the record of this entry.
+pub record IsTopicRecord (bytes : List ℕ) (entry : TopicEntry) : Type 0 where
+  pub bytes_are : bytes ≡ topic_record entry
   pub fits : IsTopicEntry entry
 
 -- ---- A subscription's ledger.

@@ -41,11 +41,11 @@ module _ (txn : Option TxnId) (bodies : List Roomy) (i : ℕ) (body : Roomy) (is
   messages-more : messages_of txn (contents_of (take (i + 1) bodies)) ≡ messages_of txn (contents_of (take i bodies)) ++ message_entry txn body.bytes ∷ []
   messages-more = ap (messages_of txn) (contents-more bodies i body is within) ∙ map-append (message_entry txn) (contents_of (take i bodies)) (body.bytes ∷ [])
 
-  pub batch_more : contents_of batch ≡ topic_batch (messages_of txn (contents_of (take i bodies))) → bytes.bytes ≡ topic_record 1 (message_entry txn body.bytes)
+  pub batch_more : contents_of batch ≡ topic_batch (messages_of txn (contents_of (take i bodies))) → bytes.bytes ≡ topic_record (message_entry txn body.bytes)
       → contents_of more ≡ topic_batch (messages_of txn (contents_of (take (i + 1) bodies)))
   batch_more so_far one =
       ap contents_of pushed ∙ contents-push batch bytes ∙ ap (λ l. l ++ bytes.bytes ∷ []) so_far ∙ ap (λ b. topic_batch (messages_of txn (contents_of (take i bodies))) ++ b ∷ []) one
-      ∙ sym (ap topic_batch messages-more ∙ map-append (topic_record 1) (messages_of txn (contents_of (take i bodies))) (message_entry txn body.bytes ∷ []))
+      ∙ sym (ap topic_batch messages-more ∙ map-append topic_record (messages_of txn (contents_of (take i bodies))) (message_entry txn body.bytes ∷ []))
 
   pub entries_more : map topic_entry_of (contents_of batch) ≡ messages_of txn (contents_of (take i bodies)) → topic_entry_of bytes.bytes ≡ message_entry txn body.bytes
       → map topic_entry_of (contents_of more) ≡ messages_of txn (contents_of (take (i + 1) bodies))

@@ -10,11 +10,11 @@ use Rattle.txn_model.specs.Skeletons.{topic_skeleton}
 
 -- The record is in the grammar of a topic's ledger.
 abbrev pub IsInGrammar : Record → Type 0
-IsInGrammar bytes = IsTopicRecord 1 bytes (topic_entry_of bytes)
+IsInGrammar bytes = IsTopicRecord bytes (topic_entry_of bytes)
 
 -- The record is in no grammar of a topic's ledger.
 abbrev pub IsOutside : Record → Type 0
-IsOutside bytes = (entry : TopicEntry) → IsTopicRecord 1 bytes entry → ⊥
+IsOutside bytes = (entry : TopicEntry) → IsTopicRecord bytes entry → ⊥
 
 -- One record, as batches.
 abbrev pub one_record : Record → List Batch

@@ -35,7 +35,7 @@ pub record IsFrontOf (v : TopicView) : Type 0 where
 
 -- The records of these entries, as one batch.
 abbrev pub topic_batch : List TopicEntry → Batch
-topic_batch entries = map (topic_record 1) entries
+topic_batch entries = map topic_record entries
 
 -- The topic with these entries more, in its ledger and in its front, and room reserved for so many ends.
 abbrev pub with_entries : TopicView → List TopicEntry → ℕ → TopicView

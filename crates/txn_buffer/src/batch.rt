@@ -16,7 +16,7 @@ use txn_records::{opened_record, plain_record};
 /// The record of a message, of a transaction or of none.
 pub fn record_of(alloc: Global, txn: Option<TxnId>, body: &Bytes) -> Result<Bytes, AllocError>
     requires { IsPublished body.now.bytes }
-    ensures bytes { IfOk result (λ b. b.bytes ≡ topic_record 1 (message_entry txn body.now.bytes)) }
+    ensures bytes { IfOk result (λ b. b.bytes ≡ topic_record (message_entry txn body.now.bytes)) }
     ensures entry { IfOk result (λ b. topic_entry_of b.bytes ≡ message_entry txn body.now.bytes) }
     ensures grammar { IfOk result (λ b. IsInGrammar b.bytes) }
 {

@@ -14,7 +14,7 @@ use Rattle.txn_model.specs.World.{Extends}
 use Rattle.txn_model.proofs.Laws.Worlds.{extends_both, extends_same}
 use Rattle.txn_engine.specs.Growing.{Grows, GrowsFile, GrowsList, GrowsWorld}
 use Rattle.txn_engine.specs.Opening.{KeepsFiles, KeepsWorld}
-use Rattle.txn_engine.proofs.OpeningFiles.{same_or_not}
+use Rattle.txn_engine.proofs.OpeningFiles.{same_or_not, keeps_list}
 
 -- ---- Between two moments.
 
@@ -73,7 +73,7 @@ module _ {D : Type 0} (on : Ghosts D) where
   files_same old new since = weaker on Same Grows old new (λ d c at same. same_grows d c same) since
 
   pub lists_files : (old new : D) → After on KeepsFiles old new → After on Grows old new
-  lists_files old new since = weaker on KeepsFiles Grows old new (λ d c at keeps file. record { list = λ batches stands. list_stays (d file) (c file) batches ((keeps file).list batches stands); damage = (keeps file).damage }) since
+  lists_files old new since = weaker on KeepsFiles Grows old new (λ d c at keeps file. record { list = λ batches stands. list_stays (d file) (c file) batches (keeps_list _ _ (keeps file) batches stands); damage = (keeps file).damage }) since
 
   module _ (names : List (List ℕ)) where
     pub worlds_first : (disk : D) → After on (GrowsWorld names) disk disk

@@ -2,16 +2,17 @@
 use Rattle.std.proofs.Common.{◌≡◌, ◌⊎◌, ⊎_elim, inl, inr, ℕ, ◌≤◌, true, false, List, [], ◌∷◌, ◌++◌, All, refl, sym, ap, ◌∙◌, subst, arith}
 use Rattle.std.specs.Prelude.{eqb}
 use Rattle.std.proofs.lemmas.Bool.Decides.{eqb_tells}
+use Rattle.std.proofs.lemmas.List.{append-nil}
 use Rattle.std.proofs.lemmas.List.Elements.{All-head, All-tail, All-cons, All-nil}
 use Rattle.txn_base.specs.declared.disk.Disk.{Ghosts}
 use Rattle.txn_base.specs.Moves.{After}
 use Rattle.txn_base.specs.declared.file_id.FileId.{FileId}
 use Rattle.txn_base.specs.Content.{LedgerContent, Standing, settled, in_flight, looked_at, KeptOrNot, Settles}
 use Rattle.txn_base.specs.Disk.{Files, Elsewhere, Changes, CountsFaults}
-use Rattle.txn_base.specs.Frames.{Batch, Stands, IsDamagedAt}
+use Rattle.txn_base.specs.Frames.{Batch, IsBatch, Stands, IsDamagedAt, frames}
 use Rattle.txn_base.specs.Outside.{Rose}
 use Rattle.txn_base.proofs.Laws.{goes_on, weaker, settled_stands, stands_not_damaged}
-use Rattle.txn_ledger.specs.Found.{KeepsDamaged, KeepsFile}
+use Rattle.txn_ledger.specs.Found.{KeepsDamaged, KeepsFile, KeepsList}
 use Rattle.txn_ledger.specs.Ledger.{IsFile, StandsIn, ExactlyIn, Stored}
 use Rattle.txn_model.specs.Sound.{ledger_file, part_file, StandsForEntries}
 use Rattle.txn_buffer.specs.View.{TopicView}
@@ -27,14 +28,28 @@ same_or_not a b = parts (eqb_tells a.part b.part) (eqb_tells a.row b.row)
     parts (inr p) r = inr (λ e. p.1 (ap (λ (f : FileId). f.part) e))
     parts (inl p) (inr r) = inr (λ e. r.1 (ap (λ (f : FileId). f.row) e))
 
+-- just frames stand for these
+just_stands : (bytes : List ℕ) (batches : List Batch) → All IsBatch batches → bytes ≡ frames batches → Stands bytes batches
+just_stands bytes batches each just = record { each = each; rest = []; split = just ∙ sym (append-nil (frames batches)); shut = tt }
+
 pub keeps_itself : (bytes : List ℕ) → KeepsFile bytes bytes
-keeps_itself bytes = record { list = λ batches stands. stands; damage = λ entry damaged. refl; just = λ batches each just. refl }
+keeps_itself bytes = record { cut = λ batches stands. inl refl; damage = λ entry damaged. refl }
+
+-- What the bytes stood for they stand for; and just frames stay just those.
+pub keeps_list : (x y : List ℕ) → KeepsFile x y → KeepsList x y
+keeps_list x y keeps batches stands = ⊎_elim (λ same. subst (λ (l : List ℕ). Stands l batches) (sym same) stands) (λ only. just_stands y batches stands.each only) (keeps.cut batches stands)
+
+pub keeps_just : (x y : List ℕ) → KeepsFile x y → (batches : List Batch) → All IsBatch batches → x ≡ frames batches → y ≡ x
+keeps_just x y keeps batches each just = ⊎_elim (λ same. same) (λ only. only ∙ sym just) (keeps.cut batches (just_stands x batches each just))
 
 pub file_then : (x y z : List ℕ) → KeepsFile x y → KeepsFile y z → KeepsFile x z
 file_then x y z one two = record {
-  list = λ batches stands. two.list batches (one.list batches stands);
+  cut = λ batches stands.
+      ⊎_elim
+      (λ stays. ⊎_elim (λ same. inl (stays ∙ same)) (λ only. inr (stays ∙ only)) (one.cut batches stands))
+      (λ only. inr only)
+      (two.cut batches (keeps_list x y one batches stands));
   damage = λ entry damaged. (let same = one.damage entry damaged in two.damage entry (subst (λ (l : List ℕ). IsDamagedAt l entry) (sym same) damaged) ∙ same);
-  just = λ batches each just. (let same = one.just batches each just in two.just batches each (same ∙ just) ∙ same);
 }
 
 pub keeps_all : (key : FileId) (d c : Files) → Changes key KeepsFile d c → KeepsFiles d c
@@ -96,13 +111,13 @@ module _ {D : Type 0} (on : Ghosts D) where
         let from = since.at_end c at in
         let stands = settled_stands StandsIn ExactlyIn (on.image old) content is backed from.0 from.1 in
         let just = backed.exact is from.0 from.1 in
-        (from.2 content.key).just content.batches stands.each just ∙ just;
+        keeps_just (from.0 content.key) (c content.key) (from.2 content.key) content.batches stands.each just ∙ just;
   }
     where
       each_kept : (s : Standing) (d c : Files) → KeepsFiles d c → KeptOrNot (StandsIn content.key d) content.batches s → KeptOrNot (StandsIn content.key c) content.batches s
-      each_kept settled d c keeps h = (keeps content.key).list content.batches h
-      each_kept looked_at d c keeps h = (keeps content.key).list content.batches h
-      each_kept (in_flight batch) d c keeps h = ⊎_elim (λ none. inl ((keeps content.key).list content.batches none)) (λ more. inr ((keeps content.key).list (content.batches ++ batch ∷ []) more)) h
+      each_kept settled d c keeps h = keeps_list _ _ (keeps content.key) content.batches h
+      each_kept looked_at d c keeps h = keeps_list _ _ (keeps content.key) content.batches h
+      each_kept (in_flight batch) d c keeps h = ⊎_elim (λ none. inl (keeps_list _ _ (keeps content.key) content.batches none)) (λ more. inr (keeps_list _ _ (keeps content.key) (content.batches ++ batch ∷ []) more)) h
 
   pub topics_kept : (ts : List TopicView) (old new : D) → After on KeepsFiles old new → All (λ t. Stored (on.image old) t.content) ts → All (λ t. Stored (on.image new) t.content) ts
   topics_kept [] old new since all = All-nil (λ t. Stored (on.image new) t.content)
@@ -113,7 +128,7 @@ module _ {D : Type 0} (on : Ghosts D) where
   -- ---- The files stand for the world for which they stood.
 
   entries_kept : {E : Type 0} (is : List ℕ → E → Type 0) (before after : List ℕ) (es : List E) → KeepsFile before after → StandsForEntries is before es → StandsForEntries is after es
-  entries_kept is before after es keeps was = record { batches = was.batches; stands = keeps.list was.batches was.stands; each = was.each }
+  entries_kept is before after es keeps was = record { batches = was.batches; stands = keeps_list before after keeps was.batches was.stands; each = was.each }
 
   world_kept : (names : List (List ℕ)) (d c : Files) → KeepsFiles d c → KeepsWorld names d c
   world_kept names d c keeps w was = record {
@@ -122,7 +137,7 @@ module _ {D : Type 0} (on : Ghosts D) where
     coord = entries_kept _ _ _ w.coord (keeps (ledger_file 0)) was.coord;
     topics = λ p h. entries_kept _ _ _ _ (keeps (ledger_file p)) (was.topics p h);
     subs = λ p h. entries_kept _ _ _ _ (keeps (ledger_file p)) (was.subs p h);
-    others = λ p row above most few. (keeps (part_file p row)).list [] (was.others p row above most few);
+    others = λ p row above most few. keeps_list _ _ (keeps (part_file p row)) [] (was.others p row above most few);
   }
 
   pub worlds_kept : (names : List (List ℕ)) (old new : D) → After on KeepsFiles old new → After on (KeepsWorld names) old new

@@ -61,7 +61,7 @@ use Rattle.txn_engine.proofs.Worlds.{some_topic}
 more_records : (bs : List FrameBatch) (es : List TopicEntry) → length (records (bs ++ topic_batch es ∷ [])) ≡ length (records bs) + length es
 more_records bs es =
     ap length (flat_map-append (λ (b : FrameBatch). b) bs (topic_batch es ∷ [])) ∙ length-append (records bs) (records (topic_batch es ∷ []))
-    ∙ ap (λ (n : ℕ). length (records bs) + n) (one (topic_batch es) ∙ length-map es (topic_record 1))
+    ∙ ap (λ (n : ℕ). length (records bs) + n) (one (topic_batch es) ∙ length-map es topic_record)
   where
     one : (b : FrameBatch) → length (records (b ∷ [])) ≡ length b
     one b = length-append b [] ∙ none (length b)

@@ -1,5 +1,5 @@
 -- The frames read so far.
-use Rattle.std.proofs.Common.{◌≡◌, inl, inr, subst, ℕ, ◌+◌, ◌<◌, ◌^◌, List, [], ◌∷◌, ◌++◌, length, take, drop, sym, ap, ◌∙◌, arith, length-append}
+use Rattle.std.proofs.Common.{◌≡◌, ◌⊎◌, ⊎_elim, inl, inr, subst, ℕ, ◌+◌, ◌<◌, ◌^◌, List, [], ◌∷◌, ◌++◌, length, take, drop, sym, ap, ◌∙◌, arith, length-append}
 use Rattle.std.proofs.lemmas.List.{append_assoc, drop_at, drop-drop}
 use Rattle.txn_base.specs.declared.file_id.FileId.{FileId}
 use Rattle.txn_base.specs.Disk.{Files, Same, Changes, OldOrResized}
@@ -10,9 +10,8 @@ use Rattle.byteorder.specs.Endian.{big_bytes}
 use Rattle.txn_base.specs.Frames.{Batch, IsBatch, IsDamagedAt, body_of, frame, frames, records, Stands}
 use Rattle.txn_base.proofs.Laws.{goes_on, stands_one, stands_not_damaged}
 use Rattle.txn_ledger.specs.Found.{KeepsDamaged, KeepsFile}
-use Rattle.txn_ledger.proofs.InFlight.{cut_stands}
 use Rattle.txn_ledger.proofs.Bodies.{frame_length}
-use Rattle.txn_ledger.proofs.Frames.{frames-push, cut_is, just_these}
+use Rattle.txn_ledger.proofs.Frames.{frames-push, cut_is}
 use Rattle.txn_ledger.proofs.Heads.{frame_found, frame_body}
 
 -- one frame more
@@ -53,28 +52,26 @@ module _ {D : Type 0} (on : Ghosts D) (file : FileId) (old mid new : D) (looked 
   keeps : (d c : Files) → Same d c → Changes file KeepsFile d c
   keeps d c same = record {
     here = record {
-      list = λ batches stands. subst (λ (f : Files). Stands (f file) batches) (sym same) stands;
+      cut = λ batches stands. inl (ap (λ (f : Files). f file) same);
       damage = λ entry damaged. ap (λ (f : Files). f file) same;
-      just = λ batches each just. ap (λ (f : Files). f file) same;
     };
     others = λ other apart. ap (λ (f : Files). f other) same;
   }
 
-  -- just frames stay just those
-  just_cut : (e c : Files) (others : List Batch) → on.image mid e → All IsBatch others → e file ≡ frames others → OldOrResized end (e file) (c file) → c file ≡ e file
-  just_cut e c others now each just (inl is) = is
-  just_cut e c others now each just (inr is) =
-      is ∙ cut_is batches end ends (e file) (at e now) ∙ sym (just_these (e file) batches others (at e now) just each)
+  -- a cut behind these batches leaves their frames
+  cut_or_not : (e c : Files) → on.image mid e → OldOrResized end (e file) (c file) → (c file ≡ e file) ⊎ (c file ≡ frames batches)
+  cut_or_not e c now (inl is) = inl is
+  cut_or_not e c now (inr is) = inr (is ∙ cut_is batches end ends (e file) (at e now))
 
   pub cut_keeps : After on (Changes file KeepsFile) old new
   cut_keeps = goes_on on _ _ _ old mid new looked cutting (λ d c was same. keeps d c same)
       (λ d e c was same now step. record {
         here = record {
-          list = λ others stands.
+          cut = λ others stands.
               let one : batches ≡ others = stands_one (e file) batches others (at e now) (subst (λ (f : Files). Stands (f file) others) (sym same) stands) in
-              subst (λ (b : List Batch). Stands (c file) b) one (cut_stands batches end 0 ends (e file) (c file) (at e now) step.here);
+              subst (λ (b : List Batch). (c file ≡ d file) ⊎ (c file ≡ frames b)) one
+              (⊎_elim (λ is. inl (is ∙ ap (λ (f : Files). f file) same)) (λ is. inr is) (cut_or_not e c now step.here));
           damage = λ entry damaged. absurd (stands_not_damaged (e file) batches entry (at e now) (subst (λ (f : Files). IsDamagedAt (f file) entry) (sym same) damaged));
-          just = λ others each just. just_cut e c others now each (ap (λ (f : Files). f file) same ∙ just) step.here ∙ ap (λ (f : Files). f file) same;
         };
         others = λ other apart. step.others other apart ∙ ap (λ (f : Files). f other) same;
       })

@@ -60,7 +60,7 @@ module _ (content : LedgerContent) (end sent : ℕ) (ends : end ≡ length (fram
       not_there e told is = subst (λ (b : Behind). IsBehind end sent read b) e (found told) (subst (λ (x : List ℕ). IsFrameThere end sent x) (sym as_read) is)
 
       pub is_more : behind ≡ More → on.tells → IsFrameThere end sent bytes
-      is_more e told = subst (λ (x : List ℕ). IsFrameThere end sent x) as_read (subst (λ (b : Behind). IsBehind end sent read b) e (found told))
+      is_more e told = subst (λ (x : List ℕ). IsFrameThere end sent x) as_read (subst (λ (b : Behind). IsBehind end sent read b) e (found told)).0
 
       pub is_there : behind ≡ Frame → on.tells → IsFrameThere end sent bytes × (length bytes ≡ end + sent)
       is_there e told = subst (λ (x : List ℕ). IsFrameThere end sent x × (length x ≡ end + sent)) as_read (subst (λ (b : Behind). IsBehind end sent read b) e (found told))

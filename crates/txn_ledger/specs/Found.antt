@@ -1,5 +1,5 @@
 -- What stands behind the frames of a file that were read so far.
-use Rattle.std.specs.Prelude.{◌≡◌, ℕ, ◌+◌, ◌*◌, ◌≤◌, List, ◌∷◌, ◌++◌, length, take, drop, All}
+use Rattle.std.specs.Prelude.{◌≡◌, ◌⊎◌, ℕ, ◌+◌, ◌*◌, ◌≤◌, List, ◌∷◌, ◌++◌, length, take, drop}
 use Rattle.byteorder.specs.Endian.{big_bytes}
 use Rattle.txn_base.specs.Frames.{Batch, IsBatch, IsShut, IsDamagedAt, Stands, frame, frames}
 use Rattle.txn_ledger.specs.declared.parse.Head.{Head}
@@ -36,8 +36,7 @@ KeepsList before after = (batches : List Batch) → Stands before batches → St
 abbrev pub KeepsDamaged : List ℕ → List ℕ → Type 0
 KeepsDamaged before after = (entry : ℕ) → IsDamagedAt before entry → after ≡ before
 
--- The bytes stand for what they stood for, damaged ones stay as they were, and so do those that are just frames.
+-- Bytes that stand for batches stay as they were, or are cut behind the frames of these; damaged ones stay as they were.
 pub record KeepsFile (before after : List ℕ) : Type 0 where
-  pub list : KeepsList before after
+  pub cut : (batches : List Batch) → Stands before batches → (after ≡ before) ⊎ (after ≡ frames batches)
   pub damage : KeepsDamaged before after
-  pub just : (batches : List Batch) → All IsBatch batches → before ≡ frames batches → after ≡ before

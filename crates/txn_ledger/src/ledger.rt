@@ -1,9 +1,10 @@
 //! The ledger of one file.
-ghost use Rattle.std.specs.Prelude.{◌≡◌, ℕ, [], Err, IfOk};
+ghost use Rattle.std.specs.Prelude.{◌≡◌, ◌≤◌, ℕ, [], Err, IfOk};
 ghost use Rattle.txn_base.specs.Content.{settled};
 ghost use Rattle.txn_base.specs.Disk.{Elsewhere, Changes};
 ghost use Rattle.txn_base.specs.Frames.{IsDamagedAt};
 ghost use Rattle.txn_base.specs.Moves.{After, FaultsIn};
+ghost use Rattle.txn_base.specs.Outside.{counted};
 ghost use Rattle.txn_ledger.specs.Found.{KeepsDamaged, KeepsFile};
 ghost use Rattle.txn_ledger.specs.Ledger.{StandsIn, Stored};
 
@@ -85,11 +86,14 @@ impl Ledger {
         // Of a damaged file nothing is cut off.
         ensures uncut { D.tells → KeepsDamaged (D.seen disk.old file) (D.seen disk.new file) }
 
-        // In each image at any moment of the call the file stands for what it stood for in an image at the call; a damaged
-        // one stays as it was there, and so does one that is just frames.
+        // In each image at any moment of the call the file is as it was in an image at the call, or cut behind the frames for
+        // which it stood there; a damaged one is as it was.
         ensures images { After D.Disk (Changes file KeepsFile) disk.old disk.new }
         ensures others { Elsewhere file (D.seen disk.old) (D.seen disk.new) }
         ensures cause { FaultsIn D.Disk file.part disk.old disk.new (result ≡ Err OpenError.Fault) }
+
+        // A sync, a cut and a sync.
+        ensures writes { D.writes disk.new ≤ counted 3 (D.writes disk.old) }
     {
         let Found {
             carrier,
@@ -111,7 +115,7 @@ impl Ledger {
         })
     }
 
-    /// The ledger of a file that stands for no batches. It reads nothing.
+    /// The ledger of a file that is empty. It reads nothing.
     pub fn empty(alloc: Global, file: FileId) -> Ledger
         ensures { result.content ≡ record { key = file; batches = []; standing = settled } }
     {
@@ -152,6 +156,10 @@ impl RecordLog for Ledger {
     ghost local = { laws.local };
 
     ghost exact_local = { laws.exact_local };
+
+    ghost exact_one = { laws.exact_one };
+
+    ghost exact_stands = { laws.exact_stands };
 
     ghost stands_one = { laws.one_list };
 

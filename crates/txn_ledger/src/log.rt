@@ -1,5 +1,5 @@
 //! A list of records on a disk, whichever files it has.
-ghost use Rattle.std.specs.Prelude.{◌≡◌, ◌<◌, ◌≤◌, ◌+◌, ◌++◌, List, ℕ, Err, length, slice_index_or, OnOk, OnErr, IfOk, IsTrue, ◌↔◌};
+ghost use Rattle.std.specs.Prelude.{◌≡◌, ◌<◌, ◌≤◌, ◌+◌, ◌++◌, List, ℕ, Err, All, length, slice_index_or, OnOk, OnErr, IfOk, IsTrue, ◌↔◌};
 ghost use Rattle.txn_base.specs.declared.file_id.FileId.{FileId};
 ghost use Rattle.txn_base.specs.Bytes.{contents_of};
 ghost use Rattle.txn_base.specs.Content.{LedgerContent, settled, landed, begun, IsInFlight, Backed, Appends, Settles};
@@ -89,7 +89,7 @@ pub trait RecordLog {
         ensures few { D.calls disk.new ≤ counted 5 (D.calls disk.old) };
 
     /// Finds out what became of a batch whose append failed, by its gate, and cuts off what stands behind the batches that
-    /// count. It takes no memory.
+    /// count. It takes no memory, and no more than five calls of the disk.
     fn settle<D: Disk>(&mut self, disk: &mut D) -> Result<Settled, Failed>
         requires in_flight { IsInFlight (content self.old).standing }
         requires backed { Backed stands exactly (D.image disk.old) (content self.old) }
@@ -101,7 +101,8 @@ pub trait RecordLog {
         ensures backed { Backed stands exactly (D.image disk.new) (content self.new) }
         ensures images { After D.Disk (Settles mine stands (content self.old)) disk.old disk.new }
         ensures others { ChangesOnly (mine (content self.old).key) (D.seen disk.old) (D.seen disk.new) }
-        ensures cause { FailsIn D.Disk (content self.old).key.part disk.old disk.new result };
+        ensures cause { FailsIn D.Disk (content self.old).key.part disk.old disk.new result }
+        ensures few { D.calls disk.new ≤ counted 5 (D.calls disk.old) };
 
     /// A record. It may also be asked of a log that isn't settled. Each call counts as one record read.
     fn get<D: Disk, L: ledger::Ledger>(
@@ -131,6 +132,11 @@ pub trait RecordLog {
 
     /// Whoever stands for batches begins with the first of them.
     ghost stands_begins: { (key : FileId) (c : Files) (batches more : List Batch) → stands key c (batches ++ more) → begins key c batches };
+
+    /// Files that are exactly these batches are one, and stand for them.
+    ghost exact_one: { (key : FileId) (c d : Files) (batches : List Batch) → exactly key c batches → exactly key d batches → (file : FileId) → mine key file → d file ≡ c file };
+
+    ghost exact_stands: { (key : FileId) (c : Files) (batches : List Batch) → All IsBatch batches → exactly key c batches → stands key c batches };
 
     /// Its files belong to one part.
     ghost one_part: { (key file : FileId) → mine key file → file.part ≡ key.part };

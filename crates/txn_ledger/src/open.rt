@@ -1,8 +1,9 @@
 //! A file that a crash may have left is brought to its frames.
-ghost use Rattle.std.specs.Prelude.{◌≡◌, ℕ, Err, IfOk};
+ghost use Rattle.std.specs.Prelude.{◌≡◌, ◌≤◌, ℕ, Err, IfOk};
 ghost use Rattle.txn_base.specs.Disk.{Elsewhere, Changes};
 ghost use Rattle.txn_base.specs.Frames.{IsDamagedAt};
 ghost use Rattle.txn_base.specs.Moves.{After, FaultsIn};
+ghost use Rattle.txn_base.specs.Outside.{counted};
 ghost use Rattle.txn_ledger.specs.Found.{KeepsDamaged, KeepsFile};
 ghost use Rattle.txn_ledger.specs.Ledger.{StandsIn, Stored};
 ghost use Rattle.txn_ledger.specs.Tied.{IsScanned};
@@ -25,6 +26,7 @@ pub fn find<D: Disk>(alloc: Global, disk: &mut D, file: FileId) -> Result<Found,
     ensures images { After D.Disk (Changes file KeepsFile) disk.old disk.new }
     ensures others { Elsewhere file (D.seen disk.old) (D.seen disk.new) }
     ensures cause { FaultsIn D.Disk file.part disk.old disk.new (result ≡ Err OpenError.Fault) }
+    ensures writes { D.writes disk.new ≤ counted 3 (D.writes disk.old) }
 {
     disk.sync(file)?;
     let size = disk.size(file)?;

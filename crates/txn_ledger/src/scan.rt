@@ -34,6 +34,7 @@ fn read_head<D: Disk>(
     ensures seen { D.seen disk.new ≡ D.seen disk.old }
     ensures images { After D.Disk Same disk.old disk.new }
     ensures cause { FaultsIn D.Disk file.part disk.old disk.new (result ≡ Err OpenError.Fault) }
+    ensures writes { D.writes disk.new ≡ D.writes disk.old }
 {
     let left = size - end;
     let count = min(HEAD as u64, left);
@@ -58,6 +59,7 @@ pub fn scan<D: Disk>(
     ensures seen { D.seen disk.new ≡ D.seen disk.old }
     ensures images { After D.Disk Same disk.old disk.new }
     ensures cause { FaultsIn D.Disk file.part disk.old disk.new (result ≡ Err OpenError.Fault) }
+    ensures writes { D.writes disk.new ≡ D.writes disk.old }
 {
     let mut found = Found::new(alloc, file);
     let mut window = Window::new(alloc);

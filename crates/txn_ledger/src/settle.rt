@@ -4,6 +4,7 @@ ghost use Rattle.txn_base.specs.Content.{IsInFlight, Settles};
 ghost use Rattle.txn_base.specs.Disk.{Same, Elsewhere, Changes, OldOrResized, resized, Only};
 ghost use Rattle.txn_base.specs.Frames.{frames};
 ghost use Rattle.txn_base.specs.Moves.{After, FailsIn};
+ghost use Rattle.txn_base.specs.Outside.{counted};
 ghost use Rattle.txn_ledger.specs.Gate.{IsBehind, HasFrame};
 ghost use Rattle.txn_ledger.specs.Ledger.{IsFile, StandsIn, Stored};
 ghost use Rattle.txn_ledger.specs.Log.{settled_as};
@@ -29,6 +30,7 @@ fn look_behind<D: Disk>(disk: &mut D, file: FileId, end: u64, sent: u64) -> Resu
     ensures seen { D.seen disk.new ≡ D.seen disk.old }
     ensures images { After D.Disk Same disk.old disk.new }
     ensures cause { FailsIn D.Disk file.part disk.old disk.new result }
+    ensures few { D.calls disk.new ≤ counted 2 (D.calls disk.old) }
 {
     let size = disk.size(file)?;
     if size < end + sent {
@@ -52,6 +54,8 @@ pub fn cut<D: Disk>(disk: &mut D, file: FileId, end: u64) -> Result<(), Failed>
     ensures cut { D.tells → OnOk result (D.seen disk.new file ≡ resized end (D.seen disk.old file)) }
     ensures others { Elsewhere file (D.seen disk.old) (D.seen disk.new) }
     ensures cause { FailsIn D.Disk file.part disk.old disk.new result }
+    ensures few { D.calls disk.new ≤ counted 2 (D.calls disk.old) }
+    ensures writes { D.writes disk.new ≤ counted 2 (D.writes disk.old) }
 {
     disk.resize(file, end)?;
     disk.sync(file)?;
@@ -79,6 +83,7 @@ pub fn find_out<D: Disk>(
     ensures images { After D.Disk (Settles IsFile StandsIn carrier.now.content) disk.old disk.new }
     ensures others { Elsewhere carrier.now.content.key (D.seen disk.old) (D.seen disk.new) }
     ensures cause { FailsIn D.Disk carrier.now.content.key.part disk.old disk.new result }
+    ensures few { D.calls disk.new ≤ counted 5 (D.calls disk.old) }
 {
     disk.sync(file)?;
     match look_behind(disk, file, end, sent)? {

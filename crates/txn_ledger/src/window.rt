@@ -59,6 +59,7 @@ impl Window {
         ensures seen { D.seen disk.new ≡ D.seen disk.old }
         ensures images { After D.Disk Same disk.old disk.new }
         ensures cause { FaultsIn D.Disk file.part disk.old disk.new (result ≡ Err OpenError.Fault) }
+        ensures writes { D.writes disk.new ≡ D.writes disk.old }
     {
         if self.holds(from, count) {
             return Ok(());

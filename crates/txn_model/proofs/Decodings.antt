@@ -82,7 +82,7 @@ coord_decoded (coord.Committed x) is = ap coord.Committed (txn_alone x is)
 coord_decoded (coord.Aborting x) is = ap coord.Aborting (txn_alone x is)
 coord_decoded (coord.Aborted x) is = ap coord.Aborted (txn_alone x is)
 
-pub topic_decoded : (e : TopicEntry) → IsTopicEntry e → topic_entry_of (topic_record 1 e) ≡ bare e
+pub topic_decoded : (e : TopicEntry) → IsTopicEntry e → topic_entry_of (topic_record e) ≡ bare e
 topic_decoded (topic.Plain body) is = refl
 topic_decoded (topic.Opened x body) is = λ i. topic.Opened (txn_read x body.bytes is.0 i) (only_bytes (behind_txn x body.bytes i))
 topic_decoded (topic.Commit x) is = ap topic.Commit (txn_alone x is)

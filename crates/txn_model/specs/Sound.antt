@@ -34,7 +34,7 @@ pub record StandsForEntries {E : Type 0} (is : Record → E → Type 0) (bytes :
 
 -- These bytes are the record of this entry of a topic, whose body has no room behind it.
 pub record IsBareRecord (bytes : Record) (entry : TopicEntry) : Type 0 where
-  pub of_entry : IsTopicRecord 1 bytes entry
+  pub of_entry : IsTopicRecord bytes entry
   pub no_room : bare entry ≡ entry
 
 -- With these names, each file of rows 0 to 65 of a part from 1 to 62 without a name stands for no batch.

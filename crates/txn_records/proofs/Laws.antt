@@ -1,4 +1,4 @@
 -- The door: what other crates take of this crate's proofs.
 
--- A topic's record is written of its entry again.
-pub use Rattle.txn_records.proofs.Topics.{topic_again}
+-- A topic's record is that of the entry that is read off its bytes; and the entry of a marker's record.
+pub use Rattle.txn_records.proofs.Topics.{topic_again, marker_decoded}

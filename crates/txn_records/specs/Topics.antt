@@ -47,15 +47,15 @@ entry_in_place (in_place.Opened x body) = topic.Opened x (only_bytes body.now)
 entry_in_place (in_place.Commit x) = topic.Commit x
 entry_in_place (in_place.Abort x) = topic.Abort x
 
--- The entry of a record's bytes is the one that it is the record of, in whatever version.
+-- The entry of a record's bytes is the one that it is the record of.
 abbrev pub TopicRecordsDecode : Type 0
-TopicRecordsDecode = (version : ℕ) (bytes : List ℕ) (entry : TopicEntry) → IsTopicRecord version bytes entry → topic_entry_of bytes ≡ bare entry
+TopicRecordsDecode = (bytes : List ℕ) (entry : TopicEntry) → IsTopicRecord bytes entry → topic_entry_of bytes ≡ bare entry
 
 -- A record stands for one entry.
 abbrev pub TopicRecordsAreOne : Type 0
 TopicRecordsAreOne =
-    (version : ℕ) (bytes : List ℕ) (a b : TopicEntry) → IsTopicRecord version bytes a → IsTopicRecord version bytes b → bare a ≡ bare b
+    (bytes : List ℕ) (a b : TopicEntry) → IsTopicRecord bytes a → IsTopicRecord bytes b → bare a ≡ bare b
 
 -- The record of an entry is read as that entry.
 abbrev pub TopicRecordsReadBack : Type 0
-TopicRecordsReadBack = (entry read : TopicEntry) → IsTopicEntry entry → IsTopicRecord 1 (topic_record 1 entry) read → bare read ≡ bare entry
+TopicRecordsReadBack = (entry read : TopicEntry) → IsTopicEntry entry → IsTopicRecord (topic_record entry) read → bare read ≡ bare entry

@@ -29,8 +29,8 @@ fn is_body(bytes: &[u8]) -> bool
 
 /// A plain message, in the fields of its record.
 fn plain_in_place(rest: &[u8]) -> Option<InPlace<'_>>
-    ensures some { IfSome result (λ found. IsTopicRecord 1 (1 ∷ 1 ∷ rest.now) (entry_in_place found)) }
-    ensures none { IfNone result ((entry : TopicEntry) → IsTopicRecord 1 (1 ∷ 1 ∷ rest.now) entry → ⊥) }
+    ensures some { IfSome result (λ found. IsTopicRecord (1 ∷ 1 ∷ rest.now) (entry_in_place found)) }
+    ensures none { IfNone result ((entry : TopicEntry) → IsTopicRecord (1 ∷ 1 ∷ rest.now) entry → ⊥) }
 {
     if !is_body(rest) {
         return None;
@@ -40,8 +40,8 @@ fn plain_in_place(rest: &[u8]) -> Option<InPlace<'_>>
 
 /// A transaction's message, in the fields of its record.
 fn opened_in_place(rest: &[u8]) -> Option<InPlace<'_>>
-    ensures some { IfSome result (λ found. IsTopicRecord 1 (1 ∷ 2 ∷ rest.now) (entry_in_place found)) }
-    ensures none { IfNone result ((entry : TopicEntry) → IsTopicRecord 1 (1 ∷ 2 ∷ rest.now) entry → ⊥) }
+    ensures some { IfSome result (λ found. IsTopicRecord (1 ∷ 2 ∷ rest.now) (entry_in_place found)) }
+    ensures none { IfNone result ((entry : TopicEntry) → IsTopicRecord (1 ∷ 2 ∷ rest.now) entry → ⊥) }
 {
     let (txn, body) = take_txn(rest)?;
     if !is_body(body) {
@@ -52,8 +52,8 @@ fn opened_in_place(rest: &[u8]) -> Option<InPlace<'_>>
 
 /// The entry of a record, with its body in place. None where the bytes aren't in the grammar.
 fn read_in_place(bytes: &[u8]) -> Option<InPlace<'_>>
-    ensures some { IfSome result (λ found. IsTopicRecord 1 bytes.now (entry_in_place found)) }
-    ensures none { IfNone result ((entry : TopicEntry) → IsTopicRecord 1 bytes.now entry → ⊥) }
+    ensures some { IfSome result (λ found. IsTopicRecord bytes.now (entry_in_place found)) }
+    ensures none { IfNone result ((entry : TopicEntry) → IsTopicRecord bytes.now entry → ⊥) }
 {
     let (kind, rest) = take_head(bytes)?;
     match kind {
@@ -72,9 +72,9 @@ fn read_in_place(bytes: &[u8]) -> Option<InPlace<'_>>
 /// What the entry of a record is, apart from its body, which isn't copied. None exactly where the bytes aren't in the
 /// grammar of version 1.
 pub fn topic_skeleton_of(bytes: &[u8]) -> Option<CoreEntry>
-    ensures read { IfSome result (λ _. IsTopicRecord 1 bytes.now (topic_entry_of bytes.now)) }
+    ensures read { IfSome result (λ _. IsTopicRecord bytes.now (topic_entry_of bytes.now)) }
     ensures skeleton { IfSome result (λ s. s ≡ topic_skeleton (topic_entry_of bytes.now)) }
-    ensures none { IfNone result ((entry : TopicEntry) → IsTopicRecord 1 bytes.now entry → ⊥) }
+    ensures none { IfNone result ((entry : TopicEntry) → IsTopicRecord bytes.now entry → ⊥) }
 {
     let found = read_in_place(bytes)?;
     Some(skeleton_in_place(found))
@@ -101,9 +101,9 @@ fn skeleton_in_place(found: InPlace<'_>) -> CoreEntry
 /// The entry of a record of version 1. `Bad` exactly where the bytes aren't in the grammar; `NoMemory` is want of memory
 /// for the body.
 pub fn read_topic(alloc: Global, bytes: &[u8]) -> Result<TopicEntry, RecordError>
-    ensures read { IfOk result (λ entry. IsTopicRecord 1 bytes.now entry) }
+    ensures read { IfOk result (λ entry. IsTopicRecord bytes.now entry) }
     ensures entry { IfOk result (λ entry. bare entry ≡ topic_entry_of bytes.now) }
-    ensures bad { result ≡ Err RecordError.Bad → (entry : TopicEntry) → IsTopicRecord 1 bytes.now entry → ⊥ }
+    ensures bad { result ≡ Err RecordError.Bad → (entry : TopicEntry) → IsTopicRecord bytes.now entry → ⊥ }
 {
     match read_in_place(bytes) {
         None => Err(RecordError::Bad),
@@ -132,7 +132,7 @@ fn copied(alloc: Global, body: &[u8]) -> Result<Bytes, RecordError>
 
 /// The body of a message, in its record.
 pub fn topic_body(bytes: &[u8]) -> &[u8]
-    requires in_grammar { IsTopicRecord 1 bytes.now (topic_entry_of bytes.now) }
+    requires in_grammar { IsTopicRecord bytes.now (topic_entry_of bytes.now) }
     requires message { IsMessage (topic_entry_of bytes.now) }
     ensures body { result.now ≡ message_body (topic_entry_of bytes.now) }
     ensures fits { IsBody (only_bytes result.now) }

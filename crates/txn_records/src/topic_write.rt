@@ -14,7 +14,7 @@ use txn_base::{Bytes, Decision, TopicEntry, TxnId};
 
 /// The record of a plain message. It stands in a grammar where the body is a text of at most 32,768 bytes.
 pub fn plain_record(alloc: Global, body: &[u8]) -> Result<Bytes, AllocError>
-    ensures bytes { IfOk result (λ b. b.bytes ≡ topic_record 1 (entry.Plain (only_bytes body.now))) }
+    ensures bytes { IfOk result (λ b. b.bytes ≡ topic_record (entry.Plain (only_bytes body.now))) }
     ensures entry { IfOk result (λ b. topic_entry_of b.bytes ≡ entry.Plain (only_bytes body.now)) }
 {
     let mut out = Bytes::new(alloc);
@@ -26,7 +26,7 @@ pub fn plain_record(alloc: Global, body: &[u8]) -> Result<Bytes, AllocError>
 
 /// The record of a transaction's message.
 pub fn opened_record(alloc: Global, txn: TxnId, body: &[u8]) -> Result<Bytes, AllocError>
-    ensures bytes { IfOk result (λ b. b.bytes ≡ topic_record 1 (entry.Opened txn (only_bytes body.now))) }
+    ensures bytes { IfOk result (λ b. b.bytes ≡ topic_record (entry.Opened txn (only_bytes body.now))) }
     ensures entry { IfOk result (λ b. topic_entry_of b.bytes ≡ entry.Opened txn (only_bytes body.now)) }
     ensures fits { IfOk result (λ _. IsTxnId txn) }
 {
@@ -40,7 +40,7 @@ pub fn opened_record(alloc: Global, txn: TxnId, body: &[u8]) -> Result<Bytes, Al
 /// Adds the record of a marker into the free room: a commit marker or an abort marker. It takes no memory.
 pub fn put_marker(txn: TxnId, decision: Decision, out: &mut Bytes)
     requires { 18 ≤ out.old.room }
-    ensures bytes { out.new.bytes ≡ out.old.bytes ++ topic_record 1 (marker_entry txn decision) }
+    ensures bytes { out.new.bytes ≡ out.old.bytes ++ topic_record (marker_entry txn decision) }
     ensures room { out.old.room ≤ out.new.room + 18 }
     ensures kept { capacity out.old ≤ capacity out.new }
     ensures fits { IsTopicEntry (marker_entry txn decision) }
@@ -53,7 +53,7 @@ pub fn put_marker(txn: TxnId, decision: Decision, out: &mut Bytes)
 
 /// The record of a marker.
 pub fn marker_record(alloc: Global, txn: TxnId, decision: Decision) -> Result<Bytes, AllocError>
-    ensures written { IfOk result (λ b. IsTopicRecord 1 b.bytes (marker_entry txn decision)) }
+    ensures written { IfOk result (λ b. IsTopicRecord b.bytes (marker_entry txn decision)) }
     ensures entry { IfOk result (λ b. topic_entry_of b.bytes ≡ marker_entry txn decision) }
 {
     let mut out = Bytes::new(alloc);
@@ -65,7 +65,7 @@ pub fn marker_record(alloc: Global, txn: TxnId, decision: Decision) -> Result<By
 /// The record of an entry.
 pub fn write_topic(alloc: Global, entry: &TopicEntry) -> Result<Bytes, AllocError>
     requires { IsTopicEntry entry.now }
-    ensures written { IfOk result (λ b. IsTopicRecord 1 b.bytes entry.now) }
+    ensures written { IfOk result (λ b. IsTopicRecord b.bytes entry.now) }
     ensures entry { IfOk result (λ b. topic_entry_of b.bytes ≡ bare entry.now) }
 {
     match entry {

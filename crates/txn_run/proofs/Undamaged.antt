@@ -91,7 +91,7 @@ coord_grammar (r ∷ rs) (e ∷ es) h = All-cons (λ r. IsCoordRecord r (coord_e
 topic_grammar : (rs : List Record) (es : List TopicEntry) → RecordsOf IsBareRecord rs es → All IsInGrammar rs
 topic_grammar [] es h = All-nil IsInGrammar
 topic_grammar (r ∷ rs) [] h = absurd h
-topic_grammar (r ∷ rs) (e ∷ es) h = All-cons IsInGrammar r rs (topic_again 1 r e h.0.of_entry) (topic_grammar rs es h.1)
+topic_grammar (r ∷ rs) (e ∷ es) h = All-cons IsInGrammar r rs (topic_again r e h.0.of_entry) (topic_grammar rs es h.1)
 
 module _ (names : List (List ℕ)) (topics : All (λ name. is_topic_name name ≡ true) names) (files : Files) (w : World) (stands : StandsFor names files w) (each : EachLawful w) where
   log_here : IsLog (length names) (files (ledger_file 0))

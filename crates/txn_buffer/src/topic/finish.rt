@@ -22,7 +22,7 @@ use std::alloc::AllocError;
 use std::slice;
 use txn_base::{Bytes, CoreEntry, Decision, Disk, Failed, TxnId};
 use txn_ledger::RecordLog;
-use txn_records::{put_marker, topic_records_decode};
+use txn_records::put_marker;
 
 /// The bytes of a marker's record.
 const RECORD: usize = 18;
@@ -115,11 +115,10 @@ impl<R: RecordLog> Topic<R> {
 fn write_marker(txn: TxnId, decision: Decision, out: &mut Bytes)
     requires empty { out.old.bytes ≡ [] }
     requires room { RECORD ≤ out.old.room }
-    ensures bytes { out.new.bytes ≡ topic_record 1 (marker_entry txn decision) }
+    ensures bytes { out.new.bytes ≡ topic_record (marker_entry txn decision) }
     ensures entry { topic_entry_of out.new.bytes ≡ marker_entry txn decision }
     ensures grammar { IsInGrammar out.new.bytes }
     ensures kept { capacity out.old ≤ capacity out.new }
 {
-    topic_records_decode();
     put_marker(txn, decision, out);
 }

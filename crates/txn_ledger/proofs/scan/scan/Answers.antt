@@ -36,6 +36,7 @@ loop-window-preserved g c =
       seen = c.fill.ensures.seen ∙ c.read_head.ensures.seen ∙ before.seen;
       images = same_on g.D.Disk c.args.file 0 _ _ _ _ (same_on g.D.Disk c.args.file 0 _ _ _ _ before.images c.read_head.ensures.images) c.fill.ensures.images;
       cause = search rules;
+      writes = c.fill.ensures.writes ∙ c.read_head.ensures.writes ∙ before.writes;
     }
 
 pub returns-in_err-add_frame-in-Body-clause-damaged : goal.returns-in_err-add_frame-in-Body-clause-damaged

@@ -16,6 +16,7 @@ invariant-loop-window g l = record {
   seen : g.D.Disk.seen l.disk ≡ g.D.Disk.seen l.fn.disk;
   images : After g.D.Disk Same l.fn.disk l.disk;
   cause : CountsFaults l.file.part (g.D.Disk.faults l.fn.disk) (g.D.Disk.faults l.disk) (g.D.Disk.part_faults l.fn.disk) (g.D.Disk.part_faults l.disk) ⊥;
+  writes : g.D.Disk.writes l.disk ≡ g.D.Disk.writes l.fn.disk;
 }
 
 abbrev pub decreases-loop-window : goal.decreases-loop-window

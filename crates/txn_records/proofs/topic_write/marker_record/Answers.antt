@@ -7,6 +7,6 @@ use Rattle.txn_records.proofs.topic_write.marker_record.Goals as goal
 
 pub returns-clause-entry : goal.returns-clause-entry
 returns-clause-entry c =
-    let bytes : c.put_marker.new.out.bytes ≡ topic_record 1 (marker_entry c.args.txn c.args.decision) =
-    c.put_marker.ensures.bytes ∙ ap (λ l. l ++ topic_record 1 (marker_entry c.args.txn c.args.decision)) (c.in_ok-reserve.ensures.bytes ∙ c.new-out.ensures) in
-    ap topic_entry_of bytes ∙ marker_decoded 1 c.args.txn c.args.decision c.put_marker.ensures.fits
+    let bytes : c.put_marker.new.out.bytes ≡ topic_record (marker_entry c.args.txn c.args.decision) =
+    c.put_marker.ensures.bytes ∙ ap (λ l. l ++ topic_record (marker_entry c.args.txn c.args.decision)) (c.in_ok-reserve.ensures.bytes ∙ c.new-out.ensures) in
+    ap topic_entry_of bytes ∙ marker_decoded c.args.txn c.args.decision c.put_marker.ensures.fits

@@ -8,5 +8,5 @@ use Rattle.txn_records.proofs.topic_write.opened_record.Goals as goal
 
 pub returns-clause-entry : goal.returns-clause-entry
 returns-clause-entry c =
-    let bytes : c.put.new.self.bytes ≡ topic_record 1 (topic.Opened c.args.txn (only_bytes c.args.body.now)) = search rules in
-    ap topic_entry_of bytes ∙ opened_decoded 1 c.args.txn c.args.body.now c.put_named.ensures.fits
+    let bytes : c.put.new.self.bytes ≡ topic_record (topic.Opened c.args.txn (only_bytes c.args.body.now)) = search rules in
+    ap topic_entry_of bytes ∙ opened_decoded c.args.txn c.args.body.now c.put_named.ensures.fits
