@@ -16,24 +16,25 @@ use Rattle.txn_coordinator.specs.declared.error.CoordError.{CoordError}
 use Rattle.txn_coordinator.specs.declared.error.CoordError.TheVariants as coord_error
 use Rattle.txn_coordinator.specs.Calls.{MayFail, begin_refusal, add_refusal, has_part, with_part, next_txn}
 use Rattle.txn_coordinator.specs.View as coordinator
-use Rattle.txn_coordinator.specs.View.{CoordView, coord_batch, with_entry, with_failed_entry}
+use Rattle.txn_coordinator.specs.View.{CoordView, coord_batch, with_entry, with_failed_entry, reserving}
 use Rattle.txn_model.specs.Allowed.{IsAllowed}
 use Rattle.txn_model.specs.EarlyRows.{early_refusal, is_bad_timeout}
 use Rattle.txn_model.specs.LateRows.{late_refusal}
 use Rattle.txn_model.specs.Names.{part_of}
 use Rattle.txn_model.specs.Replies.{is_fault}
 use Rattle.txn_model.specs.Successes.{success_of}
-use Rattle.txn_model.specs.Table.{EntryBatch, in_coord}
+use Rattle.txn_model.specs.Table.{EntryBatch, in_coord, with_batch, with_failed_batch}
 use Rattle.txn_model.specs.World.{Lawful}
 use Rattle.txn_model.proofs.Laws.Grants.{row_granted}
 use Rattle.txn_engine.specs.Kept.{IsEngine}
 use Rattle.txn_engine.specs.Refusals.{coord_refusal, begun_reply, added_reply}
-use Rattle.txn_engine.specs.Table.{world_of}
+use Rattle.txn_engine.specs.Table.{world_of, table_of}
 use Rattle.txn_engine.specs.Told.{EngineGoesOn}
 use Rattle.txn_engine.specs.View.{EngineView, IsWhole, IsTied, IsBacked, with_coord}
 use Rattle.txn_engine.proofs.Begun.{batch_one, not_ok}
 use Rattle.txn_engine.proofs.Coordinators.{refusal_is, not_refused}
 use Rattle.txn_engine.proofs.Going.{goes_still, coord_goes}
+use Rattle.txn_engine.proofs.Tables.{coord_follows, coord_fails}
 use Rattle.txn_engine.proofs.Rows.{early_new, begin_row, early_add, add_row}
 use Rattle.txn_engine.proofs.Whole.{whole_world, whole_table, world_is}
 
@@ -42,6 +43,13 @@ pub row_allowed : (v : EngineView) (is : IsEngine v) (whole : IsWhole v) (r : Re
 row_allowed v is whole r b early late adds tied lawful =
     let same : world_of v ≡ whole_world v = world_is v is whole tied in
     subst (IsAllowed b) (sym same) (subst (λ (x : EntryBatch). IsAllowed x (whole_world v)) adds (row_granted v.limits (whole_table v) r (subst Lawful same lawful) early late).allowed)
+
+-- the table by the coordinator that it has then
+pub table_grown : (v : EngineView) → IsEngine v → (e : CoordEntry) → IsCoordEntry e → IsTrue v.coord.whole → (c' : CoordView) (k : ℕ) → c' ≡ reserving k (with_entry v.coord e) → table_of (with_coord v c') ≡ with_batch (in_coord e) (table_of v)
+table_grown v is e fits whole c' k now = ap (λ (c : CoordView). table_of (with_coord v c)) now ∙ coord_follows v e fits (is.coord.settled_is whole) k
+
+pub table_failed : (v : EngineView) → IsEngine v → (e : CoordEntry) → IsCoordEntry e → IsTrue v.coord.whole → (c' : CoordView) → c' ≡ with_failed_entry v.coord e → table_of (with_coord v c') ≡ with_failed_batch (in_coord e) 0 (table_of v)
+table_failed v is e fits whole c' now = ap (λ (c : CoordView). table_of (with_coord v c)) now ∙ coord_fails v e fits (is.coord.settled_is whole)
 
 pub no_fault_refusal : (e : CoordError) → (e ≡ coord_error.Fault → ⊥) → is_fault (reply.No (coord_refusal e)) ≡ true → ⊥
 no_fault_refusal coord_error.NotFound ne h = cc
@@ -62,11 +70,11 @@ fault_refusal coord_error.NoMemory h = cc
 module _ {D : Type 0} (on : Ghosts D) (v : EngineView) (is : IsEngine v) (whole : IsWhole v) (old new : D) (backed : IsBacked (on.image old) v) where
   -- nothing happened
   pub still_goes : (X : Type 0) → (X → ⊥) → (c' : CoordView) → c' ≡ v.coord → new ≡ old → EngineGoesOn on X v (with_coord v c') old new
-  still_goes X none c' same disk = subst (λ (d : D). EngineGoesOn on X v (with_coord v c') old d) (sym disk) (goes_still on X none v (with_coord v c') old whole backed refl same refl)
+  still_goes X none c' same disk = subst (λ (d : D). EngineGoesOn on X v (with_coord v c') old d) (sym disk) (goes_still on X none v (with_coord v c') old backed refl same refl)
 
   -- where the coordinator refuses or fails
   module _ {A : Type 0} (o : Option CoordError) (no_fault : o ≡ Some coord_error.Fault → ⊥) (r : Result A CoordError) (refused : MatchOption o (MayFail r) (λ x. r ≡ Err x)) (entry : CoordEntry) (fits : IsCoordEntry entry)
-      (allowed : o ≡ None → IsTied v → Lawful (world_of v) → IsAllowed (in_coord entry) (world_of v)) (c' : CoordView) (tied : coordinator.IsFrontOf v.coord → coordinator.IsFrontOf c') (here : Stored (on.image new) c'.content)
+      (allowed : o ≡ None → IsTied v → Lawful (world_of v) → IsAllowed (in_coord entry) (world_of v)) (c' : CoordView) (fault : r ≡ Err coord_error.Fault → c' ≡ with_failed_entry v.coord entry) (tied : coordinator.IsFrontOf v.coord → coordinator.IsFrontOf c') (here : Stored (on.image new) c'.content)
       (since : After on (Appends IsFile StandsIn v.coord.content (coord_batch entry)) old new) (others : Elsewhere v.coord.content.key (on.seen old) (on.seen new)) (cause : FaultsIn on v.coord.content.key.part old new (r ≡ Err coord_error.Fault)) where
     pub error_goes : (e : CoordError) → r ≡ Err e → ((e ≡ coord_error.Fault → ⊥) → c' ≡ v.coord) → ((e ≡ coord_error.Fault → ⊥) → new ≡ old) → EngineGoesOn on (is_fault (reply.No (coord_refusal e)) ≡ true) v (with_coord v c') old new
     error_goes e is_err same still = by_case (refusal_is o r e is_err refused)
@@ -79,9 +87,10 @@ module _ {D : Type 0} (on : Ghosts D) (v : EngineView) (is : IsEngine v) (whole 
 
         by_case : (o ≡ Some e) ⊎ ((o ≡ None) × ((e ≡ coord_error.Fault) ⊎ (e ≡ coord_error.NoMemory))) → EngineGoesOn on (is_fault (reply.No (coord_refusal e)) ≡ true) v (with_coord v c') old new
         by_case (inl some) = quiet (λ f. no_fault (some ∙ ap (λ x. Some x) f))
-        by_case (inr (none, inl fault)) =
-            coord_goes on v is whole old new backed (is_fault (reply.No (coord_refusal e)) ≡ true) (r ≡ Err coord_error.Fault) entry (with_coord v c') fits (allowed none) refl refl
-            (inr (subst (λ (x : CoordError). is_fault (reply.No (coord_refusal x)) ≡ true) (sym fault) refl)) tied here since others cause (λ x. is_err ∙ ap (λ y. Err y) fault)
+        by_case (inr (none, inl failed)) =
+            coord_goes on v is old new backed (is_fault (reply.No (coord_refusal e)) ≡ true) (r ≡ Err coord_error.Fault) entry (with_coord v c') whole.coord fits (allowed none) refl refl
+            (inr (subst (λ (x : CoordError). is_fault (reply.No (coord_refusal x)) ≡ true) (sym failed) refl))
+            (inr (table_failed v is entry fits whole.coord c' (fault (is_err ∙ ap (λ y. Err y) failed)))) tied here since others cause (λ x. is_err ∙ ap (λ y. Err y) failed)
         by_case (inr (none, inr memory)) = quiet (other memory)
 
   -- ---- A transaction that is begun.
@@ -94,14 +103,14 @@ module _ {D : Type 0} (on : Ghosts D) (v : EngineView) (is : IsEngine v) (whole 
     new_allowed none = row_allowed v is whole (request.New timeout) (in_coord new_entry) (early_new v.limits v timeout ok) (begin_row v is whole timeout ok ∙ ap (option_map coord_refusal) none) refl
 
     pub begun_goes : (no_fault : begin_refusal v.coord timeout ≡ Some coord_error.Fault → ⊥) (r : Result TxnId CoordError) (c' : CoordView) → IsCoordEntry new_entry → MatchOption (begin_refusal v.coord timeout) (MayFail r) (λ x. r ≡ Err x) → OnOk r (c' ≡ with_entry v.coord new_entry)
-        → IfErr r (λ e. (e ≡ coord_error.Fault → ⊥) → c' ≡ v.coord) → IfErr r (λ e. (e ≡ coord_error.Fault → ⊥) → new ≡ old) → (coordinator.IsFrontOf v.coord → coordinator.IsFrontOf c') → Stored (on.image new) c'.content
+        → (r ≡ Err coord_error.Fault → c' ≡ with_failed_entry v.coord new_entry) → IfErr r (λ e. (e ≡ coord_error.Fault → ⊥) → c' ≡ v.coord) → IfErr r (λ e. (e ≡ coord_error.Fault → ⊥) → new ≡ old) → (coordinator.IsFrontOf v.coord → coordinator.IsFrontOf c') → Stored (on.image new) c'.content
         → After on (Appends IsFile StandsIn v.coord.content (coord_batch new_entry)) old new → Elsewhere v.coord.content.key (on.seen old) (on.seen new) → FaultsIn on v.coord.content.key.part old new (r ≡ Err coord_error.Fault)
         → EngineGoesOn on (is_fault (begun_reply r) ≡ true) v (with_coord v c') old new
-    begun_goes no_fault (Ok x) c' fits refused now same still tied here since others cause =
-        coord_goes on v is whole old new backed (false ≡ true) (◌≡◌ {A = Result TxnId CoordError} (Ok x) (Err coord_error.Fault)) new_entry (with_coord v c') fits (new_allowed (not_refused (begin_refusal v.coord timeout) (Ok x) x refl refused)) refl refl
-        (inl (subst (λ (c : CoordView). IsTrue c.whole) (sym now) whole.coord)) tied here since others cause (λ x. cc)
-    begun_goes no_fault (Err e) c' fits refused now same still tied here since others cause =
-        error_goes (begin_refusal v.coord timeout) no_fault (Err e) refused new_entry fits new_allowed c' tied here since others cause e refl same still
+    begun_goes no_fault (Ok x) c' fits refused now fault same still tied here since others cause =
+        coord_goes on v is old new backed (false ≡ true) (◌≡◌ {A = Result TxnId CoordError} (Ok x) (Err coord_error.Fault)) new_entry (with_coord v c') whole.coord fits (new_allowed (not_refused (begin_refusal v.coord timeout) (Ok x) x refl refused)) refl refl
+        (inl (subst (λ (c : CoordView). IsTrue c.whole) (sym now) whole.coord)) (inl (table_grown v is new_entry fits whole.coord c' v.coord.reserved now)) tied here since others cause (λ x. cc)
+    begun_goes no_fault (Err e) c' fits refused now fault same still tied here since others cause =
+        error_goes (begin_refusal v.coord timeout) no_fault (Err e) refused new_entry fits new_allowed c' fault tied here since others cause e refl same still
 
   -- ---- A part that is added.
 
@@ -114,10 +123,10 @@ module _ {D : Type 0} (on : Ghosts D) (v : EngineView) (is : IsEngine v) (whole 
 
     pub added_goes : (no_fault : add_refusal v.coord x p ≡ Some coord_error.Fault → ⊥) (r : Result (Unit {0}) CoordError) (c' : CoordView) → IsCoordEntry add_entry → MatchOption (add_refusal v.coord x p) (MayFail r) (λ y. r ≡ Err y)
         → (add_refusal v.coord x p ≡ None → has_part v.coord x p ≡ true → IsOk r) → (has_part v.coord x p ≡ true → new ≡ old) → OnOk r (c' ≡ with_part v.coord x p)
-        → IfErr r (λ e. (e ≡ coord_error.Fault → ⊥) → c' ≡ v.coord) → IfErr r (λ e. (e ≡ coord_error.Fault → ⊥) → new ≡ old) → (coordinator.IsFrontOf v.coord → coordinator.IsFrontOf c') → Stored (on.image new) c'.content
+        → (r ≡ Err coord_error.Fault → c' ≡ with_failed_entry v.coord add_entry) → IfErr r (λ e. (e ≡ coord_error.Fault → ⊥) → c' ≡ v.coord) → IfErr r (λ e. (e ≡ coord_error.Fault → ⊥) → new ≡ old) → (coordinator.IsFrontOf v.coord → coordinator.IsFrontOf c') → Stored (on.image new) c'.content
         → After on (Appends IsFile StandsIn v.coord.content (coord_batch add_entry)) old new → Elsewhere v.coord.content.key (on.seen old) (on.seen new) → FaultsIn on v.coord.content.key.part old new (r ≡ Err coord_error.Fault)
         → EngineGoesOn on (is_fault (added_reply r) ≡ true) v (with_coord v c') old new
-    added_goes no_fault (Ok u) c' fits refused repeated idle now same still tied here since others cause = by_part (has_part v.coord x p) refl
+    added_goes no_fault (Ok u) c' fits refused repeated idle now fault same still tied here since others cause = by_part (has_part v.coord x p) refl
       where
         kept : has_part v.coord x p ≡ true → with_part v.coord x p ≡ v.coord
         kept has = rw has refl
@@ -131,10 +140,10 @@ module _ {D : Type 0} (on : Ghosts D) (v : EngineView) (is : IsEngine v) (whole 
         by_part : (b : Bool) → has_part v.coord x p ≡ b → EngineGoesOn on (false ≡ true) v (with_coord v c') old new
         by_part true has = still_goes (false ≡ true) (λ h. cc) c' (now ∙ kept has) (idle has)
         by_part false has =
-            coord_goes on v is whole old new backed (false ≡ true) (◌≡◌ {A = Result (Unit {0}) CoordError} (Ok u) (Err coord_error.Fault)) add_entry (with_coord v c') fits (add_allowed none has) refl refl
-            (inl (subst (λ (c : CoordView). IsTrue c.whole) (sym (now ∙ grown has)) whole.coord)) tied here since others cause (λ h. cc)
-    added_goes no_fault (Err e) c' fits refused repeated idle now same still tied here since others cause =
-        error_goes (add_refusal v.coord x p) no_fault (Err e) refused add_entry fits allowed c' tied here since others cause e refl same still
+            coord_goes on v is old new backed (false ≡ true) (◌≡◌ {A = Result (Unit {0}) CoordError} (Ok u) (Err coord_error.Fault)) add_entry (with_coord v c') whole.coord fits (add_allowed none has) refl refl
+            (inl (subst (λ (c : CoordView). IsTrue c.whole) (sym (now ∙ grown has)) whole.coord)) (inl (table_grown v is add_entry fits whole.coord c' v.coord.reserved (now ∙ grown has))) tied here since others cause (λ h. cc)
+    added_goes no_fault (Err e) c' fits refused repeated idle now fault same still tied here since others cause =
+        error_goes (add_refusal v.coord x p) no_fault (Err e) refused add_entry fits allowed c' fault tied here since others cause e refl same still
       where
         fresh : (b : Bool) → has_part v.coord x p ≡ b → add_refusal v.coord x p ≡ None → has_part v.coord x p ≡ false
         fresh true has none = absurd (not_ok (Err e) e refl (repeated none has))

@@ -33,6 +33,7 @@ use Rattle.txn_engine.specs.Kept.{IsCoordinator, IsEngine}
 use Rattle.txn_engine.specs.Table.{table_of, world_of}
 use Rattle.txn_engine.specs.Told.{RoseFor, EngineGoesOn}
 use Rattle.txn_engine.specs.View.{EngineView, IsWhole, IsTied, IsBacked, with_coord}
+use Rattle.txn_engine.proofs.BegunGoes.{table_grown, table_failed}
 use Rattle.txn_engine.proofs.Changed.{coord_added, coord_failed}
 use Rattle.txn_engine.proofs.Coordinators.{logged_is, failed_is, reserving_is, engine_with}
 use Rattle.txn_engine.proofs.Decided.{on_ok, by_result, from_ok}
@@ -170,6 +171,12 @@ module _ (v : EngineView) (is : IsEngine v) (w : EngineView) (view : v ≡ w) (w
   whole_after : IsTrue c'.whole ⊎ IsErr r
   whole_after = by_result r (IsTrue c'.whole ⊎ IsErr r) (λ a e. inl (subst (λ (c : CoordView). IsTrue c.whole) (sym (ok_is (is_ok_of r a e))) whole.coord)) (λ y e. inr (is_err_of r y e))
 
+  table_after : (table_of u ≡ with_batch (in_coord (closing_entry x d)) (table_of v)) ⊎ (table_of u ≡ with_failed_batch (in_coord (closing_entry x d)) 0 (table_of v))
+  table_after =
+      by_result r ((table_of u ≡ with_batch (in_coord (closing_entry x d)) (table_of v)) ⊎ (table_of u ≡ with_failed_batch (in_coord (closing_entry x d)) 0 (table_of v)))
+      (λ a e. inl (table_grown v is (closing_entry x d) (closing_fits x d fits) whole.coord c' 0 (ok_is (is_ok_of r a e))))
+      (λ y e. inr (table_failed v is (closing_entry x d) (closing_fits x d fits) whole.coord c' (err_is (is_err_of r y e))))
+
   module _ (tied' : IsTied w) (tie : coordinator.IsFrontOf v.coord → coordinator.IsFrontOf c') where
     tied : IsTied v
     tied = subst IsTied (sym view) tied'
@@ -226,6 +233,6 @@ module _ (v : EngineView) (is : IsEngine v) (w : EngineView) (view : v ≡ w) (w
         → EngineGoesOn on (IsErr r) w u old new
     close_goes on old new backed tie here since others cause =
         subst (λ (z : EngineView). EngineGoesOn on (IsErr r) z u old new) view
-        (coord_goes on v is whole old new (subst (IsBacked (on.image old)) (sym view) backed) (IsErr r) (IsErr r) (closing_entry x d) u (closing_fits x d fits) allowed refl refl whole_after tie here
+        (coord_goes on v is old new (subst (IsBacked (on.image old)) (sym view) backed) (IsErr r) (IsErr r) (closing_entry x d) u whole.coord (closing_fits x d fits) allowed refl refl whole_after table_after tie here
         (subst (λ (e : CoordEntry). After on (Appends IsFile StandsIn v.coord.content (coord_batch e)) old new) entry_is since) others
         (record { later = cause.later; parts_later = cause.parts_later; failed = λ e. from_ok_err r (Rose (on.faults old) (on.faults new) × Rose (on.part_faults old v.coord.content.key.part) (on.part_faults new v.coord.content.key.part)) e cause.failed; others = cause.others }) (λ h. h))

@@ -45,7 +45,7 @@ use Rattle.txn_engine.specs.Table.{table_of, world_of}
 use Rattle.txn_engine.specs.Told.{MayTell, RoseFor, EngineGoesOn}
 use Rattle.txn_engine.specs.View.{EngineView, IsWhole, IsTied, IsBacked, with_coord}
 use Rattle.txn_engine.proofs.Begun.{short_told, row_told, error_told, coord_fails, begun_short, kept_by}
-use Rattle.txn_engine.proofs.BegunGoes.{still_goes, error_goes, fault_refusal}
+use Rattle.txn_engine.proofs.BegunGoes.{still_goes, error_goes, fault_refusal, table_grown}
 use Rattle.txn_engine.proofs.Changed.{coord_added}
 use Rattle.txn_engine.proofs.Coordinators.{not_refused, logged_is, engine_with}
 use Rattle.txn_engine.proofs.Going.{coord_goes, goes_like}
@@ -355,8 +355,8 @@ module _ (v : EngineView) (is : IsEngine v) (whole : IsWhole v) (x : TxnId) (d :
 
         by_test : (b : Bool) → is_open (status_in_view v.coord x) ≡ b → EngineGoesOn on (result ≡ Err coord_error.Fault) v u old new
         by_test true still_open =
-            coord_goes on v is whole old new backed (result ≡ Err coord_error.Fault) (result ≡ Err coord_error.Fault) (decision_entry x d) u (decision_fits x d fits) (allowed_open still_open) refl refl
-            (inl (decided_whole s is_ok e).coord) tie here since others cause (λ h. h)
+            coord_goes on v is old new backed (result ≡ Err coord_error.Fault) (result ≡ Err coord_error.Fault) (decision_entry x d) u whole.coord (decision_fits x d fits) (allowed_open still_open) refl refl
+            (inl (decided_whole s is_ok e).coord) (inl (table_grown v is (decision_entry x d) (decision_fits x d fits) whole.coord c' v.coord.reserved (e ∙ decided_open v.coord x d still_open))) tie here since others cause (λ h. h)
         by_test false shut = still_goes on v is whole old new backed (result ≡ Err coord_error.Fault) never c' (e ∙ decided_shut v.coord x d shut) (idle shut)
 
     pub decided_err_goes : (e : CoordError) → result ≡ Err e → ((e ≡ coord_error.Fault → ⊥) → c' ≡ v.coord) → ((e ≡ coord_error.Fault → ⊥) → new ≡ old) → EngineGoesOn on (result ≡ Err coord_error.Fault) v u old new
@@ -364,7 +364,7 @@ module _ (v : EngineView) (is : IsEngine v) (whole : IsWhole v) (x : TxnId) (d :
         goes_like on (is_fault (reply.No (coord_refusal e)) ≡ true) (result ≡ Err coord_error.Fault) v u old new
         (λ h. is_err ∙ ap (λ y. Err y) (fault_refusal e h)) (λ h. subst (λ (y : CoordError). is_fault (reply.No (coord_refusal y)) ≡ true) (sym (same_err result e coord_error.Fault is_err h)) refl)
         (error_goes on v is whole old new backed (decide_refusal v.coord x d) (no_fault_decide (status_of (coord_skeletons v.coord.front) x) d) result refused (decision_entry x d) (decision_fits x d fits)
-        (λ none. allowed_open (open_by e is_err none (is_open (status_in_view v.coord x)) refl)) c' tie here since others cause e is_err still quiet)
+        (λ none. allowed_open (open_by e is_err none (is_open (status_in_view v.coord x)) refl)) c' fault tie here since others cause e is_err still quiet)
 
 -- ---- The clauses, over an equal view.
 

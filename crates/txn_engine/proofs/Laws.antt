@@ -8,5 +8,7 @@ pub use Rattle.txn_engine.proofs.Growing.{files_first, files_then, lists_files, 
 pub use Rattle.txn_engine.proofs.TopicNames.{not_sub}
 -- A file that isn't touched stays as it was.
 pub use Rattle.txn_engine.proofs.OpeningFiles.{keeps_itself}
--- Where all parts are rebuilt, ledgers are just their frames.
-pub use Rattle.txn_engine.proofs.Tidy.{just_frames}
+-- The ledger of a part that is rebuilt is just its frames, and so are all ledgers where all parts are.
+pub use Rattle.txn_engine.proofs.Tidy.{part_just, just_frames}
+-- Where all is rebuilt, the state of the table is lawful where an image stands for a lawful world.
+pub use Rattle.txn_engine.proofs.OpenedState.{opened_lawful}

@@ -9,7 +9,6 @@ use Rattle.txn_base.specs.Decoded.{coord_entry_of, topic_entry_of, coord_entries
 use Rattle.txn_base.specs.Disk.{Files}
 use Rattle.txn_base.specs.Frames.{Batch, Stands}
 use Rattle.txn_base.specs.Records.{IsCoordRecord}
-use Rattle.txn_ledger.specs.Ledger.{Stored}
 use Rattle.txn_model.specs.declared.world.World.{World}
 use Rattle.txn_model.specs.Shape.{topic_parts}
 use Rattle.txn_model.specs.Sound.{ledger_file, StandsForEntries, StandsForEither, IsBareRecord, StandsFor, StandsForKept}
@@ -20,6 +19,7 @@ use Rattle.txn_engine.specs.Kept.{IsEngine}
 use Rattle.txn_engine.specs.Table.{coord_flight, topic_flight, lists_from, flights_from, world_of, table_of}
 use Rattle.txn_engine.specs.View.{EngineView, IsBacked}
 use Rattle.txn_engine.proofs.Changed.{coord_entries_more, topic_entries_more}
+use Rattle.txn_engine.proofs.Elsewhere.{Held, Holds, backed_holds}
 use Rattle.txn_engine.proofs.Lists.{list_in, flight_in, topic_at, at_index}
 use Rattle.txn_engine.proofs.Worlds.{shaped_world, index_of, no_sub_parts, some_topic}
 
@@ -54,25 +54,25 @@ module _ (bytes : List ℕ) (batches : List Batch) where
 
 -- ---- All ledgers.
 
-module _ (v : EngineView) (is : IsEngine v) (image : Files → Type 0) (backed : IsBacked image v) (c : Files) (at : image c) (w : World) (stands : StandsFor v.names c w) where
+module _ (v : EngineView) (is : IsEngine v) (c : Files) (holds : Holds v c) (w : World) (stands : StandsFor v.names c w) where
   coord_left : StandsForEither IsCoordRecord (c (ledger_file 0)) (coord_entries v.coord.content.batches) (coord_flight v.coord.content.standing)
   coord_left =
       coord_either (c (ledger_file 0)) v.coord.content.batches w.coord stands.coord v.coord.content.standing
-      (subst (λ (f : FileId). KeptOrNot (Stands (c f)) v.coord.content.batches v.coord.content.standing) is.coord.key (backed.coord.each c at))
+      (subst (λ (f : FileId). KeptOrNot (Stands (c f)) v.coord.content.batches v.coord.content.standing) is.coord.key holds.coord)
 
   topic_left : (p : ℕ) → has (topic_parts v.names) p ≡ true → StandsForEither IsBareRecord (c (ledger_file p)) (list_at (lists_from 1 v.topics) p) (list_at (flights_from 1 v.topics) p)
   topic_left p h =
       let found = index_of v is p h in
       let t : TopicView = get_or v.topics (p - 1) (some_topic v) in
-      let one : Stored image t.content = at_index (λ t. Stored image t.content) v.topics (p - 1) (some_topic v) found.1 backed.topics in
+      let one : Held c t.content = at_index (λ t. Held c t.content) v.topics (p - 1) (some_topic v) found.1 holds.topics in
       let here : KeptOrNot (Stands (c (ledger_file p))) t.content.batches t.content.standing =
-      subst (λ (f : FileId). KeptOrNot (Stands (c f)) t.content.batches t.content.standing) (topic_at v.limits 1 v.topics (p - 1) (some_topic v) p found.0 found.1 is.topics).key (one.each c at) in
+      subst (λ (f : FileId). KeptOrNot (Stands (c f)) t.content.batches t.content.standing) (topic_at v.limits 1 v.topics (p - 1) (some_topic v) p found.0 found.1 is.topics).key one in
       subst (λ (es : List TopicEntry). StandsForEither IsBareRecord (c (ledger_file p)) es (list_at (flights_from 1 v.topics) p)) (sym (list_in 1 v.topics (p - 1) (some_topic v) p found.0 found.1))
       (subst (λ (es : List TopicEntry). StandsForEither IsBareRecord (c (ledger_file p)) (topic_entries t.content.batches) es) (sym (flight_in 1 v.topics (p - 1) (some_topic v) p found.0 found.1))
       (topic_either (c (ledger_file p)) t.content.batches (list_at w.topics p) (stands.topics p h) t.content.standing here))
 
-  pub left_kept : StandsForKept v.names c (table_of v).world (table_of v).flights
-  left_kept = ledgers_stand v.names c (world_of v) (table_of v).flights (record {
+  pub left_held : StandsForKept v.names c (table_of v).world (table_of v).flights
+  left_held = ledgers_stand v.names c (world_of v) (table_of v).flights (record {
     named = refl;
     shaped = shaped_world v is;
     coord = coord_left;
@@ -80,3 +80,7 @@ module _ (v : EngineView) (is : IsEngine v) (image : Files → Type 0) (backed :
     subs = λ p h. absurd (no_sub_parts v is p h);
     others = stands.others;
   })
+
+-- of a disk
+pub left_kept : (v : EngineView) → IsEngine v → (image : Files → Type 0) → IsBacked image v → (c : Files) → image c → (w : World) → StandsFor v.names c w → StandsForKept v.names c (table_of v).world (table_of v).flights
+left_kept v is image backed c at w stands = left_held v is c (backed_holds image v backed c at) w stands

@@ -2,6 +2,9 @@ pub mod Laws
 pub mod Lists
 pub mod Whole
 pub mod Changed
+pub mod Tables
+pub mod Elsewhere
+pub mod Topics
 pub mod TopicNames
 pub mod Worlds
 pub mod Above
@@ -38,3 +41,4 @@ pub mod OpeningTopic
 pub mod OpeningLog
 pub mod OpeningAll
 pub mod Tidy
+pub mod OpenedState

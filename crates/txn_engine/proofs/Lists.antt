@@ -98,6 +98,17 @@ flight_in k [] i d p e h = absurd (never_below i h)
 flight_in k (u ∷ us) zero d p e h = rw (here k p e) refl
 flight_in k (u ∷ us) (suc i) d p e h = rw (past k i p e) (flight_in (suc k) us i d p (omega (arith, e)) (omega (arith, h)))
 
+pub unrebuilt_in : (k : ℕ) (ts : List TopicView) (i : ℕ) (d : TopicView) (p : ℕ) → p ≡ k + i → i < length ts → unrebuilt_from k ts p ≡ not (get_or ts i d).whole
+unrebuilt_in k [] i d p e h = absurd (never_below i h)
+unrebuilt_in k (u ∷ us) zero d p e h = rw (there k p e) refl
+  where
+    there : (k p : ℕ) → p ≡ k + 0 → (p == k) ≡ true
+    there k p e = grind (arith, nat_tests, e)
+unrebuilt_in k (u ∷ us) (suc i) d p e h = rw (beyond k i p e) (unrebuilt_in (suc k) us i d p (omega (arith, e)) (omega (arith, h)))
+  where
+    beyond : (k i p : ℕ) → p ≡ k + suc i → (p == k) ≡ false
+    beyond k i p e = grind (arith, nat_tests, e)
+
 flight_step : (b : Bool) (es rest : List TopicEntry) → es ≡ [] → rest ≡ [] → (if b then es else rest) ≡ []
 flight_step true es rest e h = e
 flight_step false es rest e h = h
@@ -163,4 +174,76 @@ unrebuilt_at k (u ∷ us) (suc i) t p0 e h unrebuilt all p =
     by_test : (b : Bool) → (p == k) ≡ b → unrebuilt_from (suc k) (replaced us i t) p ≡ (if p == p0 then true else false)
         → (if p == k then not u.whole else unrebuilt_from (suc k) (replaced us i t) p) ≡ (if p == p0 then true else false)
     by_test true q rest = rw (q, other q) (not_true u.whole (All-head (λ t. IsTrue t.whole) u us all))
+    by_test false q rest = rw q rest
+
+-- With another one at an index.
+
+-- whose list has grown
+pub lists_more : (k : ℕ) (ts : List TopicView) (i : ℕ) (t d : TopicView) (more : List TopicEntry) (p : ℕ) → p ≡ k + i → i < length ts
+    → topic_entries t.content.batches ≡ topic_entries (get_or ts i d).content.batches ++ more → lists_from k (replaced ts i t) ≡ append_at (lists_from k ts) p more
+lists_more k [] i t d more p e h grown = absurd (never_below i h)
+lists_more k (u ∷ us) zero t d more p e h grown =
+    let same : k ≡ p = omega (arith, e) in
+    rw (here k p e) (ap₂ (λ (q : ℕ) (es : List TopicEntry). (q, es) ∷ lists_from (suc k) us) same grown)
+lists_more k (u ∷ us) (suc i) t d more p e h grown =
+    rw (past k i p e) (ap (λ (ls : List (ℕ × List TopicEntry)). (k, topic_entries u.content.batches) ∷ ls) (lists_more (suc k) us i t d more p (omega (arith, e)) (omega (arith, h)) grown))
+
+-- which has the same in flight; or something else
+pub flights_still : (k : ℕ) (ts : List TopicView) (i : ℕ) (t d : TopicView) → i < length ts → topic_flight t.content.standing ≡ topic_flight (get_or ts i d).content.standing → flights_from k (replaced ts i t) ≡ flights_from k ts
+flights_still k [] i t d h same = absurd (never_below i h)
+flights_still k (u ∷ us) zero t d h same = ap (λ (es : List TopicEntry). (k, es) ∷ flights_from (suc k) us) same
+flights_still k (u ∷ us) (suc i) t d h same = ap (λ (ls : List (ℕ × List TopicEntry)). (k, topic_flight u.content.standing) ∷ ls) (flights_still (suc k) us i t d (omega (arith, h)) same)
+
+pub flights_set : (k : ℕ) (ts : List TopicView) (i : ℕ) (t : TopicView) (p0 : ℕ) → p0 ≡ k + i → i < length ts
+    → (p : ℕ) → list_at (flights_from k (replaced ts i t)) p ≡ (if p == p0 then topic_flight t.content.standing else list_at (flights_from k ts) p)
+flights_set k [] i t p0 e h p = absurd (never_below i h)
+flights_set k (u ∷ us) zero t p0 e h p = by_test (k == p) refl
+  where
+    turned : (b : Bool) → (k == p) ≡ b → (p == p0) ≡ b
+    turned true q = grind (arith, nat_tests, q, e)
+    turned false q = grind (arith, nat_tests, q, e)
+
+    by_test : (b : Bool) → (k == p) ≡ b
+        → (if k == p then topic_flight t.content.standing else list_at (flights_from (suc k) us) p)
+        ≡ (if p == p0 then topic_flight t.content.standing else (if k == p then topic_flight u.content.standing else list_at (flights_from (suc k) us) p))
+    by_test true q = rw (q, turned true q) refl
+    by_test false q = rw (q, turned false q) refl
+flights_set k (u ∷ us) (suc i) t p0 e h p = by_test (k == p) refl (flights_set (suc k) us i t p0 (omega (arith, e)) (omega (arith, h)) p)
+  where
+    other : (k == p) ≡ true → (p == p0) ≡ false
+    other q = grind (arith, nat_tests, q, e)
+
+    by_test : (b : Bool) → (k == p) ≡ b → list_at (flights_from (suc k) (replaced us i t)) p ≡ (if p == p0 then topic_flight t.content.standing else list_at (flights_from (suc k) us) p)
+        → (if k == p then topic_flight u.content.standing else list_at (flights_from (suc k) (replaced us i t)) p)
+        ≡ (if p == p0 then topic_flight t.content.standing else (if k == p then topic_flight u.content.standing else list_at (flights_from (suc k) us) p))
+    by_test true q rest = rw (q, other q) refl
+    by_test false q rest = rw q rest
+
+-- which is rebuilt where the other one is; or is or isn't
+pub unrebuilt_still : (k : ℕ) (ts : List TopicView) (i : ℕ) (t d : TopicView) → i < length ts → t.whole ≡ (get_or ts i d).whole → (p : ℕ) → unrebuilt_from k (replaced ts i t) p ≡ unrebuilt_from k ts p
+unrebuilt_still k [] i t d h same p = absurd (never_below i h)
+unrebuilt_still k (u ∷ us) zero t d h same p = ap (λ (b : Bool). if p == k then not b else unrebuilt_from (suc k) us p) same
+unrebuilt_still k (u ∷ us) (suc i) t d h same p = ap (λ (b : Bool). if p == k then not u.whole else b) (unrebuilt_still (suc k) us i t d (omega (arith, h)) same p)
+
+pub unrebuilt_set : (k : ℕ) (ts : List TopicView) (i : ℕ) (t : TopicView) (p0 : ℕ) → p0 ≡ k + i → i < length ts
+    → (p : ℕ) → unrebuilt_from k (replaced ts i t) p ≡ (if p == p0 then not t.whole else unrebuilt_from k ts p)
+unrebuilt_set k [] i t p0 e h p = absurd (never_below i h)
+unrebuilt_set k (u ∷ us) zero t p0 e h p = by_test (p == k) refl
+  where
+    turned : (b : Bool) → (p == k) ≡ b → (p == p0) ≡ b
+    turned true q = grind (arith, nat_tests, q, e)
+    turned false q = grind (arith, nat_tests, q, e)
+
+    by_test : (b : Bool) → (p == k) ≡ b
+        → (if p == k then not t.whole else unrebuilt_from (suc k) us p) ≡ (if p == p0 then not t.whole else (if p == k then not u.whole else unrebuilt_from (suc k) us p))
+    by_test true q = rw (q, turned true q) refl
+    by_test false q = rw (q, turned false q) refl
+unrebuilt_set k (u ∷ us) (suc i) t p0 e h p = by_test (p == k) refl (unrebuilt_set (suc k) us i t p0 (omega (arith, e)) (omega (arith, h)) p)
+  where
+    other : (p == k) ≡ true → (p == p0) ≡ false
+    other q = grind (arith, nat_tests, q, e)
+
+    by_test : (b : Bool) → (p == k) ≡ b → unrebuilt_from (suc k) (replaced us i t) p ≡ (if p == p0 then not t.whole else unrebuilt_from (suc k) us p)
+        → (if p == k then not u.whole else unrebuilt_from (suc k) (replaced us i t) p) ≡ (if p == p0 then not t.whole else (if p == k then not u.whole else unrebuilt_from (suc k) us p))
+    by_test true q rest = rw (q, other q) refl
     by_test false q rest = rw q rest

@@ -103,7 +103,7 @@ module _ {D : Type 0} (on : Ghosts D) (tells : Type 0) (x : TxnId) (d : Decision
     ready = λ j t from below has. ready j t below below has;
     given = λ j t before. absurd (none j before);
     marking = λ told tied. marking_starts x d (parts_of (coord_skeletons v.coord.front) x) (table_of v);
-    goes = goes_still on ⊥ (λ e. e) v v old whole backed refl refl refl;
+    goes = goes_still on ⊥ (λ e. e) v v old backed refl refl refl;
   }
     where
       least : (n : ℕ) → 0 ≤ n
@@ -174,7 +174,7 @@ module _ {D : Type 0} (on : Ghosts D) (tells : Type 0) (x : TxnId) (d : Decision
           marking = λ told tied.
               marking_more x d (parts_of log x) (1 + at) (parts_past log x at) (parts_past log x (at + 1)) (table_of v) (table_of u) (table_of w) (so.marking told tied) (rest_has log x at has few_here)
               (rebuilds_here u so.whole (1 + at)) (from_is_ok (ok told (so.goes.tied tied)));
-          goes = goes_like on (IsErr r) ⊥ v w old new (λ err. no_err err) (λ e. absurd e) (goes_then on ⊥ (IsErr r) v u w old now new so.goes goes);
+          goes = goes_like on (IsErr r) ⊥ v w old new (λ err. no_err err) (λ e. absurd e) (goes_then on ⊥ (IsErr r) v u w old now new (λ e. e) so.goes goes);
         }
           where
             no_err : IsErr r → ⊥
@@ -191,8 +191,8 @@ module _ {D : Type 0} (on : Ghosts D) (tells : Type 0) (x : TxnId) (d : Decision
                 by_result (Ok a) ok h = h
                 by_result (Err e) ok h = cc
 
-            whole_now : IsWhole w ⊎ IsErr r → IsWhole w
-            whole_now (inl now_whole) = now_whole
+            whole_now : (IsWhole u → IsWhole w) ⊎ IsErr r → IsWhole w
+            whole_now (inl stays) = stays so.whole
             whole_now (inr err) = absurd (no_err err)
 
             apart : (at j : ℕ) → at + 1 ≤ j → j ≡ at → ⊥
@@ -228,7 +228,7 @@ module _ {D : Type 0} (on : Ghosts D) (tells : Type 0) (x : TxnId) (d : Decision
             (rose_then (on.faults old) (on.faults now) (on.faults new) so.goes.cause.later grew.0, rose_then (on.part_faults old (1 + at)) (on.part_faults now (1 + at)) (on.part_faults new (1 + at)) (so.goes.cause.parts_later (1 + at)) grew.1) failed.1 refl)
 
         pub loop_fails : IsErr r → (Y : Type 0) → Y → EngineGoesOn on Y v w old new
-        loop_fails is_err Y y = goes_like on (IsErr r) Y v w old new (λ err. y) (λ z. is_err) (goes_then on ⊥ (IsErr r) v u w old now new so.goes goes)
+        loop_fails is_err Y y = goes_like on (IsErr r) Y v w old new (λ err. y) (λ z. is_err) (goes_then on ⊥ (IsErr r) v u w old now new (λ e. e) so.goes goes)
 
   -- over an equal engine and disk
   pub loop_at : (v u u' : EngineView) (old now now' : D) (at : ℕ) → u' ≡ u → now' ≡ now → UpTo v u old now at → UpTo v u' old now' at

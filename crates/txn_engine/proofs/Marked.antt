@@ -17,7 +17,7 @@ use Rattle.txn_buffer.specs.View.{TopicView, topic_batch, with_entries}
 use Rattle.txn_ledger.specs.Ledger.{IsFile, StandsIn, Stored}
 use Rattle.txn_model.specs.Coord.{decision_of}
 use Rattle.txn_model.specs.Skeletons.{coord_skeletons, topic_skeletons}
-use Rattle.txn_model.specs.Table.{TableState, marker_batch, marked, with_failed_batch}
+use Rattle.txn_model.specs.Table.{TableState, in_topic, marker_batch, marked, with_batch, with_failed_batch}
 use Rattle.txn_model.specs.Topic.{marker_of}
 use Rattle.txn_model.specs.World.{part_skeletons}
 use Rattle.txn_records.specs.Topics.{marker_entry}
@@ -26,14 +26,15 @@ use Rattle.txn_engine.specs.Table.{table_of}
 use Rattle.txn_engine.specs.Told.{RoseFor, EngineGoesOn}
 use Rattle.txn_engine.specs.View.{EngineView, IsWhole, IsTied, IsBacked, with_topics, replaced}
 use Rattle.txn_engine.proofs.Decided.{on_ok, by_result}
-use Rattle.txn_engine.proofs.Going.{goes_still, topic_goes}
+use Rattle.txn_engine.proofs.Going.{goes_still, topic_goes, topic_grown, topic_failed}
 use Rattle.txn_engine.proofs.Lists.{never_below, set_is, all_replaced, at_index}
 use Rattle.txn_buffer.proofs.Laws.{marker_records}
 use Rattle.txn_engine.proofs.Marks.{skeletons_at, stood_table, marked_table, marker_failed, marker_allowed}
-use Rattle.txn_engine.proofs.Published.{added_topic, failed_topic, engine_topics, put_back}
-use Rattle.txn_engine.proofs.Reading.{IsTopicAt, at_place, is_topic_at}
+use Rattle.txn_engine.proofs.Published.{put_back}
+use Rattle.txn_engine.proofs.Reading.{at_place, is_topic_at}
+use Rattle.txn_engine.proofs.Topics.{added_topic, failed_topic, engine_topics}
 use Rattle.txn_engine.proofs.Whole.{whole_table, table_is}
-use Rattle.txn_engine.proofs.Worlds.{some_topic}
+use Rattle.txn_engine.proofs.Worlds.{IsTopicAt, some_topic}
 
 -- ---- Another topic at an index.
 
@@ -173,19 +174,19 @@ module _ (v : EngineView) (is : IsEngine v) (w : EngineView) (view : v ≡ w) (w
     module _ {D : Type 0} (on : Ghosts D) (old new : D) (backed : IsBacked (on.image old) v) (still : same → new ≡ old)
         (tie : topic.IsFrontOf t → topic.IsFrontOf t') (here : Stored (on.image new) t'.content) (since : After on (Appends IsFile StandsIn t.content (topic_batch es)) old new) (others : Elsewhere t.content.key (on.seen old) (on.seen new))
         (cause : FaultsIn on t.content.key.part old new (IsErr r)) where
-      follows_goes : marker_of (topic_skeletons t.front) x ≡ None → EngineGoesOn on (IsErr r) v u old new
-      follows_goes m =
-          topic_goes on v is whole old new backed j below (IsErr r) (IsErr r) es t' u
-          (ap (λ (k : TopicView). k.content.key) at ∙ one.key) (marker_records x d fits) (λ tied. marker_allowed v is j below x d whole tied decided (at_marker None m)) refl refl refl (whole_by way)
+      follows_goes : marker_of (topic_skeletons t.front) x ≡ None → (table_of u ≡ with_batch (in_topic (1 + j) es) (table_of v)) ⊎ (table_of u ≡ with_failed_batch (in_topic (1 + j) es) (1 + j) (table_of v)) → EngineGoesOn on (IsErr r) v u old new
+      follows_goes m table =
+          topic_goes on v is old new backed j below (IsErr r) (IsErr r) es t' u
+          (subst (λ (k : TopicView). IsTrue k.whole) (sym at) whole_one) (marker_records x d fits) (λ tied. marker_allowed v is j below x d whole tied decided (at_marker None m)) refl refl refl (whole_by way) table
           (λ was. tie (subst topic.IsFrontOf at was)) here (subst (λ (k : TopicView). After on (Appends IsFile StandsIn k.content (topic_batch es)) old new) (sym at) since) (subst (λ (k : TopicView). Elsewhere k.content.key (on.seen old) (on.seen new)) (sym at) others)
           (subst (λ (k : TopicView). FaultsIn on k.content.key.part old new (IsErr r)) (sym at) cause) (λ h. h)
 
       goes_by : Way same → EngineGoesOn on (IsErr r) v u old new
       goes_by (stands m ok e s) =
           subst (λ (d : D). EngineGoesOn on (IsErr r) v u old d) (sym (still s))
-          (goes_still on (IsErr r) (ok_no_err r ok) v u old whole backed refl refl (ap (λ (z : EngineView). z.topics) (put_back v j t t' at e)))
-      goes_by (follows m ok e) = follows_goes m
-      goes_by (fails m err e) = follows_goes m
+          (goes_still on (IsErr r) (ok_no_err r ok) v u old backed refl refl (ap (λ (z : EngineView). z.topics) (put_back v j t t' at e)))
+      goes_by (follows m ok e) = follows_goes m (inl (topic_grown v is j below es (marker_records x d fits) t at whole_one t' 0 e))
+      goes_by (fails m err e) = follows_goes m (inr (topic_failed v is j below es (marker_records x d fits) t at t' e))
 
       pub marked_goes : EngineGoesOn on (IsErr r) v u old new
       marked_goes = goes_by way

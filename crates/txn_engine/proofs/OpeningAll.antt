@@ -24,7 +24,7 @@ use Rattle.txn_engine.specs.Kept.{IsCoordinator, IsTopic, AreTopics, IsEngine}
 use Rattle.txn_engine.specs.Opening.{IsCoordinatorOf, IsTopicOf, IsTopicLedger, IsPart, AreParts, IsDamagedTopic, IsDamagedPart, IsFirstDamage, IsFirstDamagedTopic, IsPartFile}
 use Rattle.txn_engine.specs.Table.{table_of}
 use Rattle.txn_engine.specs.View.{EngineView, IsWhole, IsTied}
-use Rattle.txn_engine.proofs.Going.{files_apart}
+use Rattle.txn_engine.proofs.Elsewhere.{files_apart}
 use Rattle.txn_engine.proofs.Lists.{topic_at, at_index}
 use Rattle.txn_engine.proofs.Whole.{whole_table, world_is, table_is, whole_world}
 use Rattle.txn_engine.proofs.Worlds.{AllStand, world_here}

@@ -49,57 +49,13 @@ use Rattle.txn_engine.specs.declared.publish.WhyNot.TheVariants as why_not
 use Rattle.txn_engine.proofs.Begun.{short_told, row_told, late_told, memory_told}
 use Rattle.txn_engine.proofs.Changed.{topic_added, topic_failed}
 use Rattle.txn_engine.proofs.Lists.{set_is, topics_replaced, length_replaced, all_replaced, at_index}
-use Rattle.txn_engine.proofs.Reading.{IsTopicAt, is_topic_at, rose_at}
+use Rattle.txn_engine.proofs.Reading.{is_topic_at, rose_at}
 use Rattle.txn_engine.proofs.Rows.{granted_here}
+use Rattle.txn_engine.proofs.Topics.{added_topic, failed_topic, engine_topics}
 use Rattle.txn_engine.proofs.TopicNames.{not_sub, part_name}
 use Rattle.txn_engine.proofs.TopicRows.{Knows, knows, number_is, list_is, unknown_publish, foreign_publish, big_publish, early_publish, late_publish}
 use Rattle.txn_engine.proofs.Whole.{whole_world, whole_table, table_is, told_from}
-use Rattle.txn_engine.proofs.Worlds.{some_topic}
-
--- ---- The topic after a publish.
-
-more_records : (bs : List FrameBatch) (es : List TopicEntry) → length (records (bs ++ topic_batch es ∷ [])) ≡ length (records bs) + length es
-more_records bs es =
-    ap length (flat_map-append (λ (b : FrameBatch). b) bs (topic_batch es ∷ [])) ∙ length-append (records bs) (records (topic_batch es ∷ []))
-    ∙ ap (λ (n : ℕ). length (records bs) + n) (one (topic_batch es) ∙ length-map es topic_record)
-  where
-    one : (b : FrameBatch) → length (records (b ∷ [])) ≡ length b
-    one b = length-append b [] ∙ none (length b)
-      where
-        none : (n : ℕ) → n + 0 ≡ n
-        none n = omega arith
-
-pub added_topic : (limits : Limits) (p : ℕ) (t : TopicView) (es : List TopicEntry) (ends : ℕ) → IsTopic limits p t → IsTrue t.whole → IsTopic limits p (with_entries t es ends)
-added_topic limits p t es ends is whole = record {
-  key = is.key;
-  part_is = is.part_is;
-  limits_are = is.limits_are;
-  settled_is = λ w. refl;
-  all = λ w. length-append t.front es ∙ ap (λ (n : ℕ). n + length es) (is.all whole) ∙ sym (more_records t.content.batches es);
-}
-
-pub failed_topic : (limits : Limits) (p : ℕ) (t : TopicView) (es : List TopicEntry) → IsTopic limits p t → IsTopic limits p (buffer.with_failed_entries t es)
-failed_topic limits p t es is = record {
-  key = is.key;
-  part_is = is.part_is;
-  limits_are = is.limits_are;
-  settled_is = λ w. absurd (never w);
-  all = λ w. absurd (never w);
-}
-  where
-    never : IsTrue false → ⊥
-    never w = cc
-
-pub engine_topics : (v : EngineView) → IsEngine v → (j : ℕ) (t : TopicView) → IsTopic v.limits (1 + j) t → IsEngine (with_topics v (replaced v.topics j t))
-engine_topics v is j t one = record {
-  range = is.range;
-  names = is.names;
-  topic_names = is.topic_names;
-  coord = is.coord;
-  topics = topics_replaced v.limits 1 v.topics j t (1 + j) refl one is.topics;
-  count = length_replaced v.topics j t ∙ is.count;
-  latest = is.latest;
-}
+use Rattle.txn_engine.proofs.Worlds.{IsTopicAt, some_topic}
 
 -- ---- By the answer of the topic.
 

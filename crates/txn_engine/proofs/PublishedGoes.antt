@@ -23,21 +23,22 @@ use Rattle.txn_model.specs.Names.{part_of}
 use Rattle.txn_model.specs.Replies.{is_fault}
 use Rattle.txn_model.specs.Skeletons.{coord_skeletons, topic_skeletons}
 use Rattle.txn_model.specs.Sound.{ledger_file, RecordsOf, IsBareRecord}
-use Rattle.txn_model.specs.Table.{in_topic}
+use Rattle.txn_model.specs.Table.{in_topic, with_batch, with_failed_batch}
 use Rattle.txn_model.specs.World.{Lawful}
 use Rattle.txn_engine.specs.Kept.{IsTopic, IsEngine}
 use Rattle.txn_engine.specs.Publishing.{foreign, why_not_in, why_refusal, publish_reply}
-use Rattle.txn_engine.specs.Table.{world_of}
+use Rattle.txn_engine.specs.Table.{world_of, table_of}
 use Rattle.txn_engine.specs.Told.{MayTell, EngineGoesOn}
 use Rattle.txn_engine.specs.View.{EngineView, IsWhole, IsTied, IsBacked, with_topics, replaced}
 use Rattle.txn_engine.specs.declared.publish.WhyNot.{WhyNot}
 use Rattle.txn_engine.proofs.BegunGoes.{row_allowed}
-use Rattle.txn_engine.proofs.Going.{goes_still, topic_goes}
+use Rattle.txn_engine.proofs.Going.{goes_still, topic_goes, topic_grown, topic_failed}
 use Rattle.txn_engine.proofs.Lists.{set_is, at_index}
-use Rattle.txn_engine.proofs.Reading.{IsTopicAt, is_topic_at}
+use Rattle.txn_engine.proofs.Reading.{is_topic_at}
 use Rattle.txn_engine.proofs.TopicRows.{Knows, knows}
-use Rattle.txn_engine.proofs.Worlds.{some_topic}
-use Rattle.txn_engine.proofs.Published.{unmarked, why_told, IsAfter, after_topic, engine_topics, put_back, early_none, late_none, adds}
+use Rattle.txn_engine.proofs.Worlds.{IsTopicAt, some_topic}
+use Rattle.txn_engine.proofs.Topics.{engine_topics}
+use Rattle.txn_engine.proofs.Published.{unmarked, why_told, IsAfter, after_topic, put_back, early_none, late_none, adds}
 
 -- ---- How it goes on.
 
@@ -67,13 +68,14 @@ module _ {D : Type 0} (on : Ghosts D) (v : EngineView) (is : IsEngine v) (whole 
   still : (X : Type 0) → (X → ⊥) → t' ≡ t → new ≡ old → EngineGoesOn on X v later old new
   still X none same disk =
       subst (λ (d : D). EngineGoesOn on X v later old d) (sym disk)
-      (subst (λ (u : EngineView). EngineGoesOn on X v u old old) (sym (put_back v (p - 1) t t' at same)) (goes_still on X none v v old whole backed refl refl refl))
+      (subst (λ (u : EngineView). EngineGoesOn on X v u old old) (sym (put_back v (p - 1) t t' at same)) (goes_still on X none v v old backed refl refl refl))
 
-  changed : (X Y : Type 0) → (v.limits.log < topic_total t + length bodies → ⊥) → RecordsOf IsBareRecord (records (topic_batch entries ∷ [])) entries → IsTrue t'.whole ⊎ X → (buffer.IsFrontOf t → buffer.IsFrontOf t') → Stored (on.image new) t'.content
+  changed : (X Y : Type 0) → (v.limits.log < topic_total t + length bodies → ⊥) → RecordsOf IsBareRecord (records (topic_batch entries ∷ [])) entries → IsTrue t'.whole ⊎ X
+      → (table_of later ≡ with_batch (in_topic (1 + (p - 1)) entries) (table_of v)) ⊎ (table_of later ≡ with_failed_batch (in_topic (1 + (p - 1)) entries) (1 + (p - 1)) (table_of v)) → (buffer.IsFrontOf t → buffer.IsFrontOf t') → Stored (on.image new) t'.content
       → After on (Appends IsFile StandsIn t.content (topic_batch entries)) old new → Elsewhere t.content.key (on.seen old) (on.seen new) → FaultsIn on t.content.key.part old new Y → (X → Y) → EngineGoesOn on X v later old new
-  changed X Y room each now tie here since others cause means =
+  changed X Y room each now table tie here since others cause means =
       let here_is : t ≡ get_or v.topics (p - 1) (some_topic v) = sym at in
-      topic_goes on v is whole old new backed (p - 1) place_of.below X Y entries t' later (subst (λ (u : TopicView). u.content.key ≡ ledger_file (1 + (p - 1))) here_is topic_is.key) each (may room) refl refl refl now
+      topic_goes on v is old new backed (p - 1) place_of.below X Y entries t' later (subst (λ (u : TopicView). IsTrue u.whole) here_is whole_is) each (may room) refl refl refl now table
       (subst (λ (u : TopicView). buffer.IsFrontOf u → buffer.IsFrontOf t') here_is tie) here
       (subst (λ (u : TopicView). After on (Appends IsFile StandsIn u.content (topic_batch entries)) old new) here_is since)
       (subst (λ (u : TopicView). Elsewhere u.content.key (on.seen old) (on.seen new)) here_is others)
@@ -84,7 +86,8 @@ module _ {D : Type 0} (on : Ghosts D) (v : EngineView) (is : IsEngine v) (whole 
       → After on (Appends IsFile StandsIn t.content (topic_batch entries)) old new → Elsewhere t.content.key (on.seen old) (on.seen new) → FaultsIn on t.content.key.part old new (result ≡ Err topic_error.Fault)
       → EngineGoesOn on (is_fault (publish_reply topic count result) ≡ true) v later old new
   published_goes (Ok place) count is_after full each unwritten memory tie here since others cause =
-      changed (false ≡ true) (◌≡◌ {A = Result ℕ TopicError} (Ok place) (Err topic_error.Fault)) (λ h. never place (topic_total t) (full.1 h)) each (inl (subst (λ (u : TopicView). IsTrue u.whole) (sym is_after.ok) whole_is)) tie here since others cause (λ h. cc)
+      changed (false ≡ true) (◌≡◌ {A = Result ℕ TopicError} (Ok place) (Err topic_error.Fault)) (λ h. never place (topic_total t) (full.1 h)) each (inl (subst (λ (u : TopicView). IsTrue u.whole) (sym is_after.ok) whole_is))
+      (inl (topic_grown v is (p - 1) place_of.below entries each t at whole_is t' t.reserved is_after.ok)) tie here since others cause (λ h. cc)
     where
       never : (place n : ℕ) → ◌≡◌ {A = Result ℕ TopicError} (Ok place) (Err (topic_error.Full n)) → ⊥
       never place n e = cc
@@ -92,7 +95,8 @@ module _ {D : Type 0} (on : Ghosts D) (v : EngineView) (is : IsEngine v) (whole 
   published_goes (Err (topic_error.Damaged place)) count is_after full each unwritten memory tie here since others cause = absurd (is_after.undamaged place refl)
   published_goes (Err topic_error.NoMemory) count is_after full each unwritten memory tie here since others cause = still (false ≡ true) (λ h. cc) (is_after.memory refl) (memory refl)
   published_goes (Err topic_error.Fault) count is_after full each unwritten memory tie here since others cause =
-      changed (true ≡ true) (◌≡◌ {A = Result ℕ TopicError} (Err topic_error.Fault) (Err topic_error.Fault)) (λ h. never (topic_total t) (full.1 h)) each (inr refl) tie here since others cause (λ h. refl)
+      changed (true ≡ true) (◌≡◌ {A = Result ℕ TopicError} (Err topic_error.Fault) (Err topic_error.Fault)) (λ h. never (topic_total t) (full.1 h)) each (inr refl)
+      (inr (topic_failed v is (p - 1) place_of.below entries each t at t' (is_after.fault refl))) tie here since others cause (λ h. refl)
     where
       never : (n : ℕ) → ◌≡◌ {A = Result ℕ TopicError} (Err topic_error.Fault) (Err (topic_error.Full n)) → ⊥
       never n e = cc

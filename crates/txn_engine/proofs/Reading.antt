@@ -18,6 +18,7 @@ use Rattle.txn_base.specs.Disk.{Files, Same}
 use Rattle.txn_base.specs.Outside.{Rose}
 use Rattle.txn_base.proofs.Laws.{weaker, same_backed}
 use Rattle.txn_ledger.specs.Ledger.{StandsIn, ExactlyIn, Stored}
+use Rattle.txn_model.specs.Allowed.{LawfulState}
 use Rattle.txn_model.specs.Answers.{Answers}
 use Rattle.txn_model.specs.Names.{part_of}
 use Rattle.txn_model.specs.Sound.{ledger_file}
@@ -27,6 +28,7 @@ use Rattle.txn_buffer.specs.View.{TopicView, IsFrontOf}
 use Rattle.txn_wire.specs.Short.{IsPartName}
 use Rattle.txn_engine.specs.Above.{StandsAbove, KeepsAboveIf}
 use Rattle.txn_engine.specs.Kept.{IsTopic, IsEngine}
+use Rattle.txn_engine.specs.Table.{table_of}
 use Rattle.txn_engine.specs.Told.{MayTell, RoseFor, EngineGoesOn}
 use Rattle.txn_engine.specs.View.{EngineView, IsWhole, IsTied, IsBacked}
 use Rattle.txn_engine.proofs.Begun.{short_told, row_told, memory_told}
@@ -37,13 +39,9 @@ use Rattle.txn_engine.proofs.Lists.{topic_at, at_index}
 use Rattle.txn_engine.proofs.TopicNames.{part_name}
 use Rattle.txn_engine.proofs.TopicRows.{Knows, knows, unknown_read, read_told, read_fault_told}
 use Rattle.txn_engine.proofs.Whole.{whole_table, table_is}
-use Rattle.txn_engine.proofs.Worlds.{some_topic}
+use Rattle.txn_engine.proofs.Worlds.{IsTopicAt, some_topic}
 
 -- ---- The topic at an index.
-
--- A topic that was looked at is the one at the index j.
-abbrev pub IsTopicAt : EngineView → ℕ → TopicView → Type 0
-IsTopicAt v j t = get_or v.topics j (some_topic v) ≡ t
 
 pub at_place : (v : EngineView) (j : ℕ) (t : TopicView) → j < length v.topics → t ≡ get_or v.topics j t → IsTopicAt v j t
 at_place v j t below e = get_or_default v.topics j (some_topic v) t below ∙ sym e
@@ -113,17 +111,18 @@ module _ {D : Type 0} (on : Ghosts D) (old new : D) (since : After on Same old n
       All-cons (λ t. Stored (on.image new) t.content) t ts (same_backed StandsIn ExactlyIn on old new t.content since (All-head (λ t. Stored (on.image old) t.content) t ts backed))
       (topics_same_backed ts (All-tail (λ t. Stored (on.image old) t.content) t ts backed))
 
-  pub read_goes : on.seen new ≡ on.seen old → (v : EngineView) → IsEngine v → IsWhole v → IsBacked (on.image old) v → (topic : List ℕ) (p : ℕ) → part_of v.names topic ≡ Some p → (t : TopicView) → IsTopicAt v (p - 1) t → (X Y : Type 0)
+  pub read_goes : on.seen new ≡ on.seen old → (v : EngineView) → IsEngine v → IsBacked (on.image old) v → (topic : List ℕ) (p : ℕ) → part_of v.names topic ≡ Some p → (t : TopicView) → IsTopicAt v (p - 1) t → (X Y : Type 0)
       → FaultsIn on t.content.key.part old new Y → (X → Y) → EngineGoesOn on X v v old new
-  read_goes still v is whole backed topic p known t at X Y cause means =
+  read_goes still v is backed topic p known t at X Y cause means =
       let found = knows v is topic p known in
       let one : IsTopic v.limits (1 + (p - 1)) t = is_topic_at v is (p - 1) t found.below at in
       record {
         names = refl;
-        whole = inl whole;
+        whole = inl (λ whole. whole);
         tied = λ was. was;
+        lawful = λ was state. state;
         backed = record { coord = same_backed StandsIn ExactlyIn on old new v.coord.content since backed.coord; topics = topics_same_backed v.topics backed.topics };
-        images = weaker on Same (KeepsAboveIf (IsTied v) v.names) old new (λ d c here same was floor above. subst (StandsAbove v.names floor) (sym same) above) since;
+        images = weaker on Same (KeepsAboveIf (IsTied v × LawfulState (table_of v)) v.names) old new (λ d c here same was floor above. subst (StandsAbove v.names floor) (sym same) above) since;
         grows = files_same on old new since;
         worlds = worlds_same on v.names old new since;
         elsewhere = images_same on (length v.names) old new since;

@@ -14,9 +14,8 @@ use Rattle.txn_engine.specs.Kept.{IsEngine}
 use Rattle.txn_engine.specs.View.{EngineView, IsWhole, with_coord, with_topics, replaced}
 use Rattle.txn_engine.proofs.Decided.{on_ok, by_result, from_ok}
 use Rattle.txn_engine.proofs.Lists.{set_is}
-use Rattle.txn_engine.proofs.Reading.{IsTopicAt}
 use Rattle.txn_engine.proofs.Same.{topics_same, reserved_one, same_then, same_itself, same_engine, same_whole}
-use Rattle.txn_engine.proofs.Worlds.{some_topic}
+use Rattle.txn_engine.proofs.Worlds.{IsTopicAt, some_topic}
 
 -- ---- One topic.
 

@@ -20,6 +20,7 @@ use Rattle.txn_buffer.specs.View.{TopicView}
 use Rattle.txn_coordinator.specs.View as coordinator
 use Rattle.txn_coordinator.specs.View.{CoordView}
 use Rattle.txn_ledger.specs.Ledger.{Stored}
+use Rattle.txn_model.specs.Allowed.{LawfulState}
 use Rattle.txn_model.specs.Answers.{AnswersAt}
 use Rattle.txn_model.specs.Names.{NamesLawful}
 use Rattle.txn_model.specs.Table.{TableState}
@@ -163,13 +164,14 @@ module _ (v v' : EngineView) (same : IsSameBut v v') where
 
 module _ {D : Type 0} (on : Ghosts D) where
   -- room that is reserved
-  pub goes_same : (X : Type 0) → (X → ⊥) → (v v' : EngineView) (disk : D) → IsWhole v → IsBacked (on.image disk) v → IsSameBut v v' → EngineGoesOn on X v v' disk disk
-  goes_same X none v v' disk whole backed same = record {
+  pub goes_same : (X : Type 0) → (X → ⊥) → (v v' : EngineView) (disk : D) → IsBacked (on.image disk) v → IsSameBut v v' → EngineGoesOn on X v v' disk disk
+  goes_same X none v v' disk backed same = record {
     names = same.names;
-    whole = inl (same_whole v v' same whole);
+    whole = inl (same_whole v v' same);
     tied = same_tied v v' same;
+    lawful = λ tied state. subst LawfulState (sym (same_table v v' same)) state;
     backed = same_backed v v' same (on.image disk) backed;
-    images = started on disk (KeepsAboveIf (IsTied v) v.names) (λ c at tied floor above. above);
+    images = started on disk (KeepsAboveIf (IsTied v × LawfulState (table_of v)) v.names) (λ c at holds floor above. above);
     grows = files_first on disk;
     worlds = worlds_first on v.names disk;
     elsewhere = started on disk (OnlyLedgers (length v.names)) (λ c at file apart. refl);

@@ -84,6 +84,10 @@ AllStand c ts = All (λ t. StandsIn t.content.key c t.content.batches) ts
 abbrev pub some_topic : EngineView → TopicView
 some_topic v = record { content = record { key = ledger_file 0; batches = []; standing = settled }; front = []; part = 0; whole = false; reserved = 0; limits = v.limits }
 
+-- A topic that was looked at is the one at the index j.
+abbrev pub IsTopicAt : EngineView → ℕ → TopicView → Type 0
+IsTopicAt v j t = get_or v.topics j (some_topic v) ≡ t
+
 module _ (v : EngineView) (is : IsEngine v) (c : Files) (coord_here : StandsIn v.coord.content.key c v.coord.content.batches) (topics_here : AllStand c v.topics) (w : World) (stands : StandsFor v.names c w) where
   pub coord_stands : Stands (c (ledger_file 0)) v.coord.content.batches
   coord_stands = subst (λ (f : FileId). Stands (c f) v.coord.content.batches) is.coord.key coord_here

@@ -9,7 +9,7 @@ use Rattle.txn_model.specs.declared.world.World.{World}
 use Rattle.txn_model.specs.Opening.{table_over}
 use Rattle.txn_model.specs.Sound.{StandsFor}
 use Rattle.txn_model.specs.Table.{TableState}
-use Rattle.txn_model.specs.World.{EachLawful}
+use Rattle.txn_model.specs.World.{EachLawful, Lawful}
 use Rattle.txn_engine.specs.Above.{KeepsAbove, KeepsAboveIf}
 use Rattle.txn_engine.specs.Growing.{GrowsWorld}
 use Rattle.txn_engine.specs.Kept.{IsEngine}
@@ -34,13 +34,16 @@ module _ {D : Type 0} (on : Ghosts D) (names : List (List ℕ)) where
   pub opening_above : (old mid : D) → After on (KeepsWorld names) old mid → After on (KeepsAbove names) old mid
   opening_above old mid opened = weaker on (KeepsWorld names) (KeepsAbove names) old mid (λ d c at keeps. world_above d c keeps) opened
 
-  -- only a disk that tells has images
-  pub running_above : (X tells : Type 0) → ((disk : D) (c : Files) → on.image disk c → tells) → (tells → X) → (old mid new : D) (other : List (List ℕ)) → other ≡ names
+  -- by what holds where an image in between stands for a lawful world
+  pub running_above : (X : Type 0) (old mid new : D) → ((c : Files) → on.image mid c → (w : World) → StandsFor names c w → Lawful w → X) → (other : List (List ℕ)) → other ≡ names
       → After on (KeepsWorld names) old mid → After on (KeepsAboveIf X other) mid new → After on (KeepsAbove names) old new
-  running_above X tells told tied old mid new other same opened ran =
+  running_above X old mid new holds other same opened ran =
       goes_on on (KeepsAbove names) (KeepsAboveIf X names) (KeepsAbove names) old mid new (opening_above old mid opened)
       (subst (λ (ns : List (List ℕ)). After on (KeepsAboveIf X ns) mid new) same ran)
-      (λ d c at is. is) (λ d e c at one mid_at two floor above. two (tied (told mid e mid_at)) floor (one floor above))
+      (λ d c at is. is)
+      (λ d e c at one mid_at two floor above.
+      let here = one floor above in
+      two (holds e mid_at here.sound.world here.sound.stands here.sound.lawful) floor here)
 
   -- lawful or not
   pub running_worlds : (old mid new : D) (other : List (List ℕ)) → other ≡ names → After on (KeepsWorld names) old mid → After on (GrowsWorld other) mid new → After on (GrowsWorld names) old new

@@ -4,10 +4,12 @@ use Rattle.txn_base.specs.declared.disk.Disk as disk
 use Rattle.txn_base.specs.declared.sink.Sink as sink
 use Rattle.txn_base.specs.Moves.{After}
 use Rattle.txn_base.proofs.Laws.{started, goes_on}
+use Rattle.txn_model.specs.Allowed.{LawfulState}
 use Rattle.txn_engine.specs.Above.{KeepsAboveIf}
 use Rattle.txn_engine.specs.Files.{OnlyLedgers}
 use Rattle.txn_engine.specs.Growing.{GrowsWorld}
 use Rattle.txn_engine.specs.Kept.{IsEngine}
+use Rattle.txn_engine.specs.Table.{table_of}
 use Rattle.txn_engine.specs.Told.{FaultsWithin, EngineGoesOn}
 use Rattle.txn_engine.specs.View.{EngineView, IsTied, IsBacked}
 use Rattle.txn_engine.proofs.Laws.{files_first, files_then, worlds_first, worlds_then}
@@ -27,7 +29,8 @@ module _ {D : Type 0} (on : disk.Ghosts D) where
     engine = is;
     tied = λ t. t;
     backed = backed;
-    images = keeps_first on (IsTied v) v.names at;
+    lawful = λ tied state. state;
+    images = keeps_first on (IsTied v × LawfulState (table_of v)) v.names at;
     grows = files_first on at;
     worlds = worlds_first on v.names at;
     elsewhere = leaves_none on (length v.names) at;
@@ -42,7 +45,8 @@ module _ {D : Type 0} (on : disk.Ghosts D) where
     engine = two.engine;
     tied = λ t. two.tied (one.tied t);
     backed = two.backed;
-    images = keeps_then on _ _ u.names v.names old mid new one.names one.tied one.images two.images;
+    lawful = λ tied state. two.lawful (one.tied tied) (one.lawful tied state);
+    images = keeps_then on _ _ u.names v.names old mid new one.names (λ x. (one.tied x.0, one.lawful x.0 x.1)) one.images two.images;
     grows = files_then on old mid new one.grows two.grows;
     worlds = worlds_then on u.names old mid new one.worlds (subst (λ (ns : List (List ℕ)). After on (GrowsWorld ns) mid new) one.names two.worlds);
     elsewhere = leaves_then on u.names v.names old mid new one.names one.elsewhere two.elsewhere;
@@ -57,6 +61,7 @@ module _ {D : Type 0} (on : disk.Ghosts D) where
     engine = one.engine;
     tied = one.tied;
     backed = one.backed;
+    lawful = one.lawful;
     images = one.images;
     grows = one.grows;
     worlds = one.worlds;
@@ -72,6 +77,7 @@ module _ {D : Type 0} (on : disk.Ghosts D) where
     engine = engine;
     tied = goes.tied;
     backed = goes.backed;
+    lawful = goes.lawful;
     images = goes.images;
     grows = goes.grows;
     worlds = goes.worlds;

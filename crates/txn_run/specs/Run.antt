@@ -1,5 +1,5 @@
 -- How a run ends.
-use Rattle.std.specs.Prelude.{◌≡◌, ◌⊎◌, ℕ, ◌+◌, ◌-◌, ◌^◌, ◌<◌, ◌≤◌, min, List, [], ◌∷◌, ◌++◌, length, Option, Ok}
+use Rattle.std.specs.Prelude.{◌≡◌, ◌⊎◌, ℕ, ◌+◌, ◌-◌, ◌^◌, ◌<◌, ◌≤◌, min, false, List, [], ◌∷◌, ◌++◌, length, Option, Ok}
 use Rattle.std.specs.Io.KnownBytes.{Consumes, Keeps, IsAtEnd}
 use Rattle.txn_base.specs.declared.clock.Clock as clock
 use Rattle.txn_base.specs.declared.disk.Disk as disk
@@ -9,13 +9,14 @@ use Rattle.txn_base.specs.Disk.{Files}
 use Rattle.txn_base.specs.Moves.{After}
 use Rattle.txn_base.specs.declared.limits.Limits.{Limits}
 use Rattle.txn_base.specs.declared.reply.Reply.{Reply}
+use Rattle.txn_engine.specs.Files.{IsJustFrames}
 use Rattle.txn_engine.specs.Opening.{AreParts, KeepsFiles, KeepsAllDamaged}
 use Rattle.txn_model.specs.declared.world.World.{World}
 use Rattle.txn_model.specs.Cut.{whole_lines, lines_of}
 use Rattle.txn_model.specs.Opening.{first_state}
 use Rattle.txn_model.specs.Replies.{RunState, count_faults}
-use Rattle.txn_model.specs.Sound.{StandsFor, StandsForKept}
-use Rattle.txn_model.specs.Table.{TableState}
+use Rattle.txn_model.specs.Sound.{StandsFor, StandsForKept, ledger_file}
+use Rattle.txn_model.specs.Table.{TableState, is_unrebuilt}
 use Rattle.txn_model.specs.World.{EachLawful}
 use Rattle.txn_run.specs.Words.{command_of}
 use Rattle.txn_run.specs.Told.{AllRebuilt, AnsweredLines, Broken, Stopped, EndsWithFault}
@@ -126,7 +127,8 @@ first_run_state names w moments faults faults_of = record { table = first_state 
 -- A run over the files that stood for the world w and were opened, when the counts stood at f and fs, which is not before
 -- those of the call: its lines are answered by the table, and the clock is left where the last of them leaves it. The replies
 -- that tell of a fault are at most as many as the disk's count rose by since the call, unless it stands at its end. Where each
--- image at the call stood for a world, lawful or not, each image that is left is one that the last table keeps.
+-- image at the call stood for a world, lawful or not, each image that is left is one that the last table keeps; and in each the
+-- ledger of a part that is rebuilt then is its frames and no more.
 pub record Ran (ended : RunStatus) (limits : Limits) (names : List (List ℕ)) (w : World) (moments moments' : Option (List ℕ)) (image_before image : Files → Type 0) (before after : ℕ) (parts_before parts_after : ℕ → ℕ) (left left' held held' : Option (List ℕ)) : Type 0 where
   pub faults : ℕ
   pub faults_of : ℕ → ℕ
@@ -141,6 +143,7 @@ pub record Ran (ended : RunStatus) (limits : Limits) (names : List (List ℕ)) (
   pub told : Ended ended limits (first_run_state names w moments faults faults_of) held taken last held' left'
   pub counted : min (before + count_faults (replies_in ended limits (first_run_state names w moments faults faults_of) held taken last held' left' told)) (2 ^ 64 - 1) ≤ after
   pub leaves : ((c : Files) → image_before c → StandsForSome names c) → (c : Files) → image c → Leaves names last.table c
+  pub tidy : (c : Files) → image c → (p : ℕ) → p ≤ length names → is_unrebuilt last.table p ≡ false → IsJustFrames (c (ledger_file p))
 
 -- Ended before its first line, or ran. Damage is no end of a run over files that are each lawful by itself.
 abbrev pub RunOn : {D I O K : Type 0} → disk.Ghosts D → source.Ghosts I → sink.Ghosts O → clock.Ghosts K

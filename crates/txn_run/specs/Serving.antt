@@ -5,9 +5,11 @@ use Rattle.txn_base.specs.declared.limits.Limits.{Limits}
 use Rattle.txn_base.specs.declared.sink.Sink as sink
 use Rattle.txn_base.specs.Moves.{After}
 use Rattle.txn_base.specs.Outside.{Rose}
+use Rattle.txn_model.specs.Allowed.{LawfulState}
 use Rattle.txn_engine.specs.Above.{KeepsAboveIf}
 use Rattle.txn_engine.specs.Growing.{Grows, GrowsWorld}
 use Rattle.txn_engine.specs.Kept.{IsEngine}
+use Rattle.txn_engine.specs.Table.{table_of}
 use Rattle.txn_engine.specs.Told.{FaultsWithin}
 use Rattle.txn_engine.specs.View.{EngineView, IsWhole, IsTied, IsBacked}
 use Rattle.txn_run.specs.Files.{LeavesOthers}
@@ -22,16 +24,17 @@ pub record CanServe {D : Type 0} (d : disk.Ghosts D) (limits : Limits) (v : Engi
   pub engine : IsEngine v
   pub backed : IsBacked (d.image at) v
 
--- From v to v', over these disks: the parts stay, tied to the ledgers and backed by each image; whatever world each image at
--- first extends soundly, each image since does; sound or not, the lists of files only grow, and so does the world for which an
--- image stood; no file but the ledgers changes; and the counts rose where this is a fault.
+-- From v to v', over these disks: the parts stay, tied to the ledgers and backed by each image; a state of the table that is
+-- lawful stays so, and then whatever world an image at first extends soundly, those that come of it extend; lawful or not,
+-- what files stand for only grows; no file but the ledgers changes; and the counts rose where this is a fault.
 pub record Serves {D : Type 0} (d : disk.Ghosts D) (is_fault : Type 0) (v v' : EngineView) (old new : D) : Type 0 where
   pub names : v'.names ≡ v.names
   pub limits : v'.limits ≡ v.limits
   pub engine : IsEngine v'
   pub tied : IsTied v → IsTied v'
   pub backed : IsBacked (d.image new) v'
-  pub images : After d (KeepsAboveIf (IsTied v) v.names) old new
+  pub lawful : IsTied v → LawfulState (table_of v) → LawfulState (table_of v')
+  pub images : After d (KeepsAboveIf (IsTied v × LawfulState (table_of v)) v.names) old new
   pub grows : After d Grows old new
   pub worlds : After d (GrowsWorld v.names) old new
   pub elsewhere : LeavesOthers d (length v.names) old new

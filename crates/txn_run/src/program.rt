@@ -42,9 +42,10 @@ use txn_engine::Engine;
 /// reply is put before the next line is answered. The clock tells one moment for each `new`, when its form was read.
 ///
 /// Where the disk tells what it holds, and that stands for a world, lawful or not: the texts of the replies of the table, as
-/// the status says, were put, and each image that is left is one that the last table keeps (`answers`). On every disk:
-/// whatever world each image at the call extends soundly, each image at any moment since does (`always`). On every disk,
-/// whatever its files hold: the list for which a file stands only grows (`grows`).
+/// the status says, were put, each image that is left is one that the last table keeps, and in it the ledger of a part that is
+/// rebuilt is its frames and no more (`answers`). On every disk: whatever world each image at the call extends soundly, each
+/// image at any moment since does (`always`). On every disk, whatever its files hold: the list for which a file stands only
+/// grows (`grows`).
 pub fn run<D: Disk, I: Source, O: Sink, K: Clock>(
     alloc: Global,
     words: &[Text],
@@ -58,8 +59,9 @@ pub fn run<D: Disk, I: Source, O: Sink, K: Clock>(
     ensures answers { Asks words.now (λ names.
         RunsOn D.Disk I.Source O.Sink K.Clock result limits.now names disk.old disk.new source.old source.new sink.old sink.new clock.old clock.new) }
 
-    // Whatever the files hold, and with every status: a file that stood for a list stands in each image since for that list with
-    // more behind it, or none; and where an image at the call stood for a world, each since stands for one that extends it.
+    // Whatever the files hold, and with every status, each image since comes of one at the call: a file that stood for a list in
+    // that one stands for it with more behind it, or none; and where that one stood for a world, this stands for one that extends
+    // it.
     ensures grows { After D.Disk Grows disk.old disk.new }
     ensures worlds { Asks words.now (λ names. After D.Disk (GrowsWorld names) disk.old disk.new) }
 

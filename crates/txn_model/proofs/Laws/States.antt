@@ -1,7 +1,8 @@
 -- Laws of the states of the table.
 
--- A state stays lawful where neither world nor flights change, nor which parts are rebuilt, and where an allowed batch is settled.
-pub use Rattle.txn_model.proofs.LawfulSteps.{same_state, settled_state}
+-- A state stays lawful where neither world nor flights change, nor which parts are rebuilt, and where an allowed batch is settled
+-- or fails.
+pub use Rattle.txn_model.proofs.LawfulSteps.{same_state, settled_state, failed_state}
 -- Recovery keeps a lawful state, its names, its markers and what is whole; its part is whole then; and the coordinator's log
 -- stays where another part is recovered.
 pub use Rattle.txn_model.proofs.LawfulMoves.{Keeps, all_keep, all_whole, rebuilds_keeps}

@@ -1,10 +1,11 @@
-use Rattle.std.proofs.Common.{◌∙◌, ℕ, List, length, inl, inr, refl, sym, ap, Err, subst}
+use Rattle.std.proofs.Common.{◌∙◌, ◌≤◌, ℕ, List, length, inl, inr, refl, sym, ap, Err, subst}
 use Rattle.std.proofs.KnownBytes.{Keeps-refl}
 use Rattle.txn_model.specs.Replies.{RunState}
+use Rattle.txn_model.specs.Sound.{StandsFor}
 use Rattle.txn_engine.specs.Files.{AreJustFrames}
 use Rattle.txn_run.specs.Going.{run_state}
 use Rattle.txn_run.specs.Run.{Ended, IsEarly, IsAnswered, IsAtRest, first_run_state}
-use Rattle.txn_engine.proofs.Laws.{files_then, lists_files, lists_worlds, just_frames}
+use Rattle.txn_engine.proofs.Laws.{files_then, lists_files, lists_worlds, part_just, just_frames, opened_lawful}
 use Rattle.txn_run.proofs.Counted.{counted_since}
 use Rattle.txn_run.proofs.Keeping.{leaves_then, counts_then, counts_but}
 use Rattle.txn_run.proofs.Running.{opening_above, running_above, running_worlds, image_stands, first_is, leaves_here, early_here, damage_of, fault_of, not_answered, not_at_rest}
@@ -13,7 +14,13 @@ use Rattle.txn_run.proofs.program.run_over.Goals as goal
 
 pub returns-in-Ok-open_disk-clause-images : goal.returns-in-Ok-open_disk-clause-images
 returns-in-Ok-open_disk-clause-images g c =
-    running_above g.D.Disk c.args.names.items _ g.D.Disk.tells g.met.D.Disk.image_is_told c.in-Ok-open_disk.ensures.tied c.args.disk.now c.open_disk.new.disk c.run_in.new.disk
+    let opened = c.in-Ok-open_disk.ensures.opened in
+    running_above g.D.Disk c.args.names.items _ c.args.disk.now c.open_disk.new.disk c.run_in.new.disk
+    (λ image at w stands lawful. (
+      c.in-Ok-open_disk.ensures.tied (g.met.D.Disk.image_is_told _ image at),
+      opened_lawful c.in-Ok-open_disk.engine c.in-Ok-open_disk.ensures.kept opened.3 (g.D.Disk.image c.open_disk.new.disk) c.in-Ok-open_disk.ensures.backed image at w
+          (subst (λ (ns : List (List ℕ)). StandsFor ns image w) (sym opened.0) stands) lawful,
+    ))
     c.in-Ok-open_disk.engine.names c.in-Ok-open_disk.ensures.opened.0 c.in-Ok-open_disk.ensures.images c.run_in.ensures.serves.images
 
 pub returns-in-Ok-open_disk-clause-answers : goal.returns-in-Ok-open_disk-clause-answers
@@ -44,6 +51,9 @@ returns-in-Ok-open_disk-clause-answers g c told w stands =
           c.in-Ok-open_disk.engine.names opened.0 c.in-Ok-open_disk.ensures.images c.run_in.ensures.serves.worlds in
           let stood = image_stands g.D.Disk c.args.names.items c.args.disk.now c.run_in.new.disk since all image at in
           leaves_here c.args.names.items c.run_in.new.engine c.run_in.ensures.serves.engine (c.run_in.ensures.serves.names ∙ opened.0) (g.D.Disk.image c.run_in.new.disk) c.run_in.ensures.serves.backed image at stood;
+      tidy = λ image at p within rebuilt.
+          part_just (g.D.Disk.image c.run_in.new.disk) image at c.run_in.new.engine c.run_in.ensures.serves.engine c.run_in.ensures.serves.backed p
+          (subst (λ (ns : List (List ℕ)). p ≤ length ns) (sym (c.run_in.ensures.serves.names ∙ opened.0)) within) rebuilt;
     })
 
 pub returns-in-Ok-open_disk-clause-undamaged : goal.returns-in-Ok-open_disk-clause-undamaged

@@ -83,7 +83,7 @@ returns-clause-goes g c =
     (no_fault_add (status_of (coord_skeletons c.self.inside.coordinator.front) c.args.txn) (has_part c.self.inside.coordinator c.args.txn c.in-Some.number) (full_log c.self.inside.coordinator.limits (coord_total c.self.inside.coordinator) 1))
     c.add-added.result c.add-added.new.self
     (add_fits c.args.txn c.in-Some.number (length c.self.inside.names.items) (search rules) (search rules) c.in-Some.ensures.within.0 within (few_names c.self.inside.names.items c.self.invariant.names))
-    c.add-added.ensures.refused c.add-added.ensures.repeated c.add-added.ensures.nothing c.add-added.ensures.ok c.add-added.ensures.same c.add-added.ensures.unwritten c.add-added.ensures.tied c.add-added.ensures.backed c.add-added.ensures.images c.add-added.ensures.others c.add-added.ensures.cause))
+    c.add-added.ensures.refused c.add-added.ensures.repeated c.add-added.ensures.nothing c.add-added.ensures.ok c.add-added.ensures.fault c.add-added.ensures.same c.add-added.ensures.unwritten c.add-added.ensures.tied c.add-added.ensures.backed c.add-added.ensures.images c.add-added.ensures.others c.add-added.ensures.cause))
 
 pub returns-in_default-clause-undamaged : goal.returns-in_default-clause-undamaged
 returns-in_default-clause-undamaged g c = unknown_sound c.args.part.now c.unknown_part.result c.unknown_part.ensures
@@ -109,10 +109,10 @@ pub returns-clause-early : goal.returns-clause-early
 returns-clause-early g c = no_row c.args.self.now c.args.self.now refl (request.Add c.args.txn c.args.part.now) c.added_reply.result (early_add c.args.self.now.limits c.args.self.now c.args.txn c.args.part.now c.in-Some.number (ap (λ (v : EngineView). part_of v.names c.args.part.now) (sym c.self.view_is) ∙ ap (λ (ns : List (List ℕ)). part_of ns c.args.part.now) (sym c.deref.ensures.value) ∙ sym c.part_of.ensures.value ∙ c.in-Some.is) (grind (arith, nat_tests, c.if-txn-ne0.false)))
 
 pub returns-in_default-clause-goes : goal.returns-in_default-clause-goes
-returns-in_default-clause-goes g c = goes_quiet g.D.Disk c.unknown_part.result (unknown_quiet c.args.part.now c.unknown_part.result c.unknown_part.ensures) c.args.self.now c.args.disk.now c.requires.whole c.requires.backed
+returns-in_default-clause-goes g c = goes_quiet g.D.Disk c.unknown_part.result (unknown_quiet c.args.part.now c.unknown_part.result c.unknown_part.ensures) c.args.self.now c.args.disk.now c.requires.backed
 
 pub returns-then-txn-ne0-clause-goes : goal.returns-then-txn-ne0-clause-goes
-returns-then-txn-ne0-clause-goes g c = goes_quiet g.D.Disk (reply.No (no.UnknownCoordinator c.args.txn.most)) refl c.args.self.now c.args.disk.now c.requires.whole c.requires.backed
+returns-then-txn-ne0-clause-goes g c = goes_quiet g.D.Disk (reply.No (no.UnknownCoordinator c.args.txn.most)) refl c.args.self.now c.args.disk.now c.requires.backed
 
 pub returns-in_default-new-clause-goes : goal.returns-in_default-new-clause-goes
-returns-in_default-new-clause-goes g c = goes_quiet g.D.Disk (reply.No no.NoMemory) refl c.args.self.now c.args.disk.now c.requires.whole c.requires.backed
+returns-in_default-new-clause-goes g c = goes_quiet g.D.Disk (reply.No no.NoMemory) refl c.args.self.now c.args.disk.now c.requires.backed

@@ -29,12 +29,12 @@ returns-then-is_bad_timeout-clause-told g c = λ tells tied.
 pub returns-then-is_bad_timeout-clause-goes : goal.returns-then-is_bad_timeout-clause-goes
 returns-then-is_bad_timeout-clause-goes g c =
     goes_at g.D.Disk _ _ _ _ c.args.disk.now c.args.disk.now c.self.view_is
-    (goes_still g.D.Disk _ (λ h. cc) _ _ c.args.disk.now (subst IsWhole (sym c.self.view_is) c.requires.whole) (subst (IsBacked (g.D.Disk.image c.args.disk.now)) (sym c.self.view_is) c.requires.backed) refl refl refl)
+    (goes_still g.D.Disk _ (λ h. cc) _ _ c.args.disk.now (subst (IsBacked (g.D.Disk.image c.args.disk.now)) (sym c.self.view_is) c.requires.backed) refl refl refl)
 
 pub returns-in_default-clause-goes : goal.returns-in_default-clause-goes
 returns-in_default-clause-goes g c =
     goes_at g.D.Disk _ _ _ _ c.args.disk.now c.args.disk.now c.self.view_is
-    (goes_still g.D.Disk _ (λ h. cc) _ _ c.args.disk.now (subst IsWhole (sym c.self.view_is) c.requires.whole) (subst (IsBacked (g.D.Disk.image c.args.disk.now)) (sym c.self.view_is) c.requires.backed) refl refl refl)
+    (goes_still g.D.Disk _ (λ h. cc) _ _ c.args.disk.now (subst (IsBacked (g.D.Disk.image c.args.disk.now)) (sym c.self.view_is) c.requires.backed) refl refl refl)
 
 pub invariant_of-self-2 : goal.invariant_of-self-2
 invariant_of-self-2 g c =
@@ -71,7 +71,7 @@ returns-clause-goes g c =
     (no_fault_begin c.self.inside.coordinator c.args.timeout (sym c.is_bad_timeout.ensures ∙ c.if-is_bad_timeout.false))
     c.begin-begun.result c.begin-begun.new.self
     (new_fits c.self.inside.coordinator c.count-count.result c.max-self-inside.result c.args.timeout c.count-count.ensures c.count-count.type_inv is.latest (sym c.is_bad_timeout.ensures ∙ c.if-is_bad_timeout.false))
-    c.begin-begun.ensures.refused c.begin-begun.ensures.ok c.begin-begun.ensures.same c.begin-begun.ensures.unwritten c.begin-begun.ensures.tied c.begin-begun.ensures.backed c.begin-begun.ensures.images c.begin-begun.ensures.others c.begin-begun.ensures.cause)))
+    c.begin-begun.ensures.refused c.begin-begun.ensures.ok c.begin-begun.ensures.fault c.begin-begun.ensures.same c.begin-begun.ensures.unwritten c.begin-begun.ensures.tied c.begin-begun.ensures.backed c.begin-begun.ensures.images c.begin-begun.ensures.others c.begin-begun.ensures.cause)))
 
 pub returns-clause-undamaged : goal.returns-clause-undamaged
 returns-clause-undamaged g c = ap is_damage c.begun_reply.ensures ∙ begun_sound c.begin-begun.result

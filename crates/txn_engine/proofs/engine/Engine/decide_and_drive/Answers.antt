@@ -22,7 +22,7 @@ returns-in-Ok-clause-told g c = λ tells tied now.
 
 pub returns-in-Ok-clause-goes : goal.returns-in-Ok-clause-goes
 returns-in-Ok-clause-goes g c =
-    goes_then g.D.Disk _ _ c.args.self.now c.decide.new.self c.drive.new.self c.args.disk.now c.decide.new.disk c.drive.new.disk c.in-Ok.ensures.goes c.drive.ensures.goes
+    goes_then g.D.Disk _ _ c.args.self.now c.decide.new.self c.drive.new.self c.args.disk.now c.decide.new.disk c.drive.new.disk (λ e. cc) c.in-Ok.ensures.goes c.drive.ensures.goes
 
 pub returns-in-Err-clause-told : goal.returns-in-Err-clause-told
 returns-in-Err-clause-told g c = λ tells tied now.

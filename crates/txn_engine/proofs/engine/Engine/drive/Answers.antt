@@ -41,7 +41,7 @@ pub returns-then-is_err-clause-goes : goal.returns-then-is_err-clause-goes
 returns-then-is_err-clause-goes g c =
     goes_like g.D.Disk (IsErr c.close.result) _ c.args.self.now c.close.new.self c.args.disk.now c.close.new.disk
     (λ err. ap (λ (o : Outcome). is_stopped o.stuck) c.stuck-then-is_err.ensures) (λ stopped. sym c.is_err.ensures.value ∙ c.if-is_err.true)
-    (goes_then g.D.Disk _ (IsErr c.close.result) c.args.self.now c.mark_all.new.self c.close.new.self c.args.disk.now c.mark_all.new.disk c.close.new.disk c.in_default.ensures.goes c.close.ensures.goes)
+    (goes_then g.D.Disk _ (IsErr c.close.result) c.args.self.now c.mark_all.new.self c.close.new.self c.args.disk.now c.mark_all.new.disk c.close.new.disk (λ e. cc) c.in_default.ensures.goes c.close.ensures.goes)
 
 pub returns-clause-told : goal.returns-clause-told
 returns-clause-told g c = λ tells tied.
@@ -52,7 +52,7 @@ returns-clause-told g c = λ tells tied.
 pub returns-clause-goes : goal.returns-clause-goes
 returns-clause-goes g c =
     goes_like g.D.Disk (IsErr c.close.result) (false ≡ true) c.args.self.now c.close.new.self c.args.disk.now c.close.new.disk (λ err. sym c.if-is_err.false ∙ c.is_err.ensures.value ∙ err) (λ h. cc)
-    (goes_then g.D.Disk _ (IsErr c.close.result) c.args.self.now c.mark_all.new.self c.close.new.self c.args.disk.now c.mark_all.new.disk c.close.new.disk c.in_default.ensures.goes c.close.ensures.goes)
+    (goes_then g.D.Disk _ (IsErr c.close.result) c.args.self.now c.mark_all.new.self c.close.new.self c.args.disk.now c.mark_all.new.disk c.close.new.disk (λ e. cc) c.in_default.ensures.goes c.close.ensures.goes)
 
 pub returns-in-Err-clause-named : goal.returns-in-Err-clause-named
 returns-in-Err-clause-named g c =

@@ -23,7 +23,7 @@ returns-then-is_err-clause-told g c = λ tells tied now.
 
 pub returns-then-is_err-clause-goes : goal.returns-then-is_err-clause-goes
 returns-then-is_err-clause-goes g c =
-    goes_same g.D.Disk (false ≡ true) (λ h. cc) c.args.self.now c.reserve.new.self c.args.disk.now c.requires.whole c.requires.backed c.reserve.ensures.same
+    goes_same g.D.Disk (false ≡ true) (λ h. cc) c.args.self.now c.reserve.new.self c.args.disk.now c.requires.backed c.reserve.ensures.same
 
 pub decide_and_drive-requires-clause-whole : goal.decide_and_drive-requires-clause-whole
 decide_and_drive-requires-clause-whole g c = same_whole c.args.self.now c.reserve.new.self c.reserve.ensures.same c.requires.whole
@@ -38,8 +38,8 @@ returns-clause-told g c = λ tells tied now.
 
 pub returns-clause-goes : goal.returns-clause-goes
 returns-clause-goes g c =
-    goes_then g.D.Disk ⊥ _ c.args.self.now c.reserve.new.self c.decide_and_drive.new.self c.args.disk.now c.args.disk.now c.decide_and_drive.new.disk
-    (goes_same g.D.Disk ⊥ (λ e. e) c.args.self.now c.reserve.new.self c.args.disk.now c.requires.whole c.requires.backed c.reserve.ensures.same) c.decide_and_drive.ensures.goes
+    goes_then g.D.Disk ⊥ _ c.args.self.now c.reserve.new.self c.decide_and_drive.new.self c.args.disk.now c.args.disk.now c.decide_and_drive.new.disk (λ e. e)
+    (goes_same g.D.Disk ⊥ (λ e. e) c.args.self.now c.reserve.new.self c.args.disk.now c.requires.backed c.reserve.ensures.same) c.decide_and_drive.ensures.goes
 
 pub returns-clause-named : goal.returns-clause-named
 returns-clause-named g c =

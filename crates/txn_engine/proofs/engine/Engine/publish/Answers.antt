@@ -136,19 +136,19 @@ pub returns-clause-early : goal.returns-clause-early
 returns-clause-early g c = no_row c.args.self.now c.args.self.now refl (request.Publish c.args.topic.now c.args.txn c.args.bodies.now) c.publish_reply.result (early_publish c.args.self.now.limits c.args.self.now c.args.topic.now c.args.bodies.now c.args.txn c.in-Some.number (ap (λ (v : EngineView). part_of v.names c.args.topic.now) (sym c.self.view_is) ∙ ap (λ (ns : List (List ℕ)). part_of ns c.args.topic.now) (sym c.deref.ensures.value) ∙ sym c.part_of.ensures.value ∙ c.in-Some.is) (topic_kind c.args.self.now (subst IsEngine c.self.view_is c.self.invariant) c.args.topic.now c.in-Some.number (ap (λ (v : EngineView). part_of v.names c.args.topic.now) (sym c.self.view_is) ∙ ap (λ (ns : List (List ℕ)). part_of ns c.args.topic.now) (sym c.deref.ensures.value) ∙ sym c.part_of.ensures.value ∙ c.in-Some.is)) (sym c.foreign.ensures ∙ c.in_default-foreign.is) (ap (λ (v : EngineView). are_too_big v.limits c.args.bodies.now) (sym c.self.view_is) ∙ sym (ap (are_too_big c.self.inside.limits) c.as_slice.ensures) ∙ sym c.are_too_big.ensures ∙ c.if-are_too_big.false))
 
 pub returns-in_default-clause-goes : goal.returns-in_default-clause-goes
-returns-in_default-clause-goes g c = goes_quiet g.D.Disk c.unknown_part.result (unknown_quiet c.args.topic.now c.unknown_part.result c.unknown_part.ensures) c.args.self.now c.args.disk.now c.requires.whole c.requires.backed
+returns-in_default-clause-goes g c = goes_quiet g.D.Disk c.unknown_part.result (unknown_quiet c.args.topic.now c.unknown_part.result c.unknown_part.ensures) c.args.self.now c.args.disk.now c.requires.backed
 
 pub returns-in-Some-foreign-clause-goes : goal.returns-in-Some-foreign-clause-goes
-returns-in-Some-foreign-clause-goes g c = goes_quiet g.D.Disk (reply.No (no.UnknownCoordinator c.in-Some-foreign.number)) refl c.args.self.now c.args.disk.now c.requires.whole c.requires.backed
+returns-in-Some-foreign-clause-goes g c = goes_quiet g.D.Disk (reply.No (no.UnknownCoordinator c.in-Some-foreign.number)) refl c.args.self.now c.args.disk.now c.requires.backed
 
 pub returns-then-are_too_big-clause-goes : goal.returns-then-are_too_big-clause-goes
-returns-then-are_too_big-clause-goes g c = goes_quiet g.D.Disk (reply.No no.TooBig) refl c.args.self.now c.args.disk.now c.requires.whole c.requires.backed
+returns-then-are_too_big-clause-goes g c = goes_quiet g.D.Disk (reply.No no.TooBig) refl c.args.self.now c.args.disk.now c.requires.backed
 
 pub returns-in_default-new-clause-goes : goal.returns-in_default-new-clause-goes
-returns-in_default-new-clause-goes g c = goes_quiet g.D.Disk (reply.No no.NoMemory) refl c.args.self.now c.args.disk.now c.requires.whole c.requires.backed
+returns-in_default-new-clause-goes g c = goes_quiet g.D.Disk (reply.No no.NoMemory) refl c.args.self.now c.args.disk.now c.requires.backed
 
 pub returns-in_default-bytes_of-clause-goes : goal.returns-in_default-bytes_of-clause-goes
-returns-in_default-bytes_of-clause-goes g c = goes_quiet g.D.Disk (reply.No no.NoMemory) refl c.args.self.now c.args.disk.now c.requires.whole c.requires.backed
+returns-in_default-bytes_of-clause-goes g c = goes_quiet g.D.Disk (reply.No no.NoMemory) refl c.args.self.now c.args.disk.now c.requires.backed
 
 pub returns-in-Some-why_not-clause-goes : goal.returns-in-Some-why_not-clause-goes
-returns-in-Some-why_not-clause-goes g c = goes_quiet g.D.Disk (reply.No c.why_refusal.result) (ap (λ row. is_fault (reply.No row)) c.why_refusal.ensures ∙ why_quiet c.args.topic.now c.in-Some-why_not.why) c.args.self.now c.args.disk.now c.requires.whole c.requires.backed
+returns-in-Some-why_not-clause-goes g c = goes_quiet g.D.Disk (reply.No c.why_refusal.result) (ap (λ row. is_fault (reply.No row)) c.why_refusal.ensures ∙ why_quiet c.args.topic.now c.in-Some-why_not.why) c.args.self.now c.args.disk.now c.requires.backed

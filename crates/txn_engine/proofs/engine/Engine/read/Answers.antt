@@ -38,7 +38,7 @@ returns-in-Ok-read-clause-goes g c =
     let known = ap (λ (ns : List (List ℕ)). part_of ns c.args.topic.now) (sym c.deref.ensures.value) ∙ sym c.part_of.ensures.value ∙ c.in-Some.is in
     let found = knows _ c.self.invariant c.args.topic.now c.in-Some.number known in
     goes_both g.D.Disk _ _ _ c.args.disk.now c.read.new.disk c.self.view_is
-    (read_goes g.D.Disk c.args.disk.now c.read.new.disk c.in-Ok-read.ensures.images c.in-Ok-read.ensures.seen _ c.self.invariant (subst IsWhole (sym c.self.view_is) c.requires.whole)
+    (read_goes g.D.Disk c.args.disk.now c.read.new.disk c.in-Ok-read.ensures.images c.in-Ok-read.ensures.seen _ c.self.invariant
     (subst (IsBacked (g.D.Disk.image c.args.disk.now)) (sym c.self.view_is) c.requires.backed) c.args.topic.now c.in-Some.number known c.index-part.result.now (at_known _ _ _ _ found _ c.index-part.ensures) _ _ c.in-Ok-read.ensures.cause (λ h. cc))
 
 pub returns-in-Err-Damaged-clause-tellable : goal.returns-in-Err-Damaged-clause-tellable
@@ -50,7 +50,7 @@ returns-in-Err-Damaged-clause-goes g c =
     let known = ap (λ (ns : List (List ℕ)). part_of ns c.args.topic.now) (sym c.deref.ensures.value) ∙ sym c.part_of.ensures.value ∙ c.in-Some.is in
     let found = knows _ c.self.invariant c.args.topic.now c.in-Some.number known in
     goes_both g.D.Disk _ _ _ c.args.disk.now c.read.new.disk c.self.view_is
-    (read_goes g.D.Disk c.args.disk.now c.read.new.disk c.in-Err-Damaged.ensures.images c.in-Err-Damaged.ensures.seen _ c.self.invariant (subst IsWhole (sym c.self.view_is) c.requires.whole)
+    (read_goes g.D.Disk c.args.disk.now c.read.new.disk c.in-Err-Damaged.ensures.images c.in-Err-Damaged.ensures.seen _ c.self.invariant
     (subst (IsBacked (g.D.Disk.image c.args.disk.now)) (sym c.self.view_is) c.requires.backed) c.args.topic.now c.in-Some.number known c.index-part.result.now (at_known _ _ _ _ found _ c.index-part.ensures) _ _ c.in-Err-Damaged.ensures.cause (λ h. cc))
 
 pub returns-in-Err-Fault-clause-told : goal.returns-in-Err-Fault-clause-told
@@ -72,7 +72,7 @@ returns-in-Err-Fault-clause-goes g c =
     let known = ap (λ (ns : List (List ℕ)). part_of ns c.args.topic.now) (sym c.deref.ensures.value) ∙ sym c.part_of.ensures.value ∙ c.in-Some.is in
     let found = knows _ c.self.invariant c.args.topic.now c.in-Some.number known in
     goes_both g.D.Disk _ _ _ c.args.disk.now c.read.new.disk c.self.view_is
-    (read_goes g.D.Disk c.args.disk.now c.read.new.disk c.in-Err-Fault.ensures.images c.in-Err-Fault.ensures.seen _ c.self.invariant (subst IsWhole (sym c.self.view_is) c.requires.whole)
+    (read_goes g.D.Disk c.args.disk.now c.read.new.disk c.in-Err-Fault.ensures.images c.in-Err-Fault.ensures.seen _ c.self.invariant
     (subst (IsBacked (g.D.Disk.image c.args.disk.now)) (sym c.self.view_is) c.requires.backed) c.args.topic.now c.in-Some.number known c.index-part.result.now (at_known _ _ _ _ found _ c.index-part.ensures) _ _ c.in-Err-Fault.ensures.cause (λ h. ap Err c.in-Err-Fault.field-0-is))
 
 pub returns-in-Err-NoMemory-clause-goes : goal.returns-in-Err-NoMemory-clause-goes
@@ -80,7 +80,7 @@ returns-in-Err-NoMemory-clause-goes g c =
     let known = ap (λ (ns : List (List ℕ)). part_of ns c.args.topic.now) (sym c.deref.ensures.value) ∙ sym c.part_of.ensures.value ∙ c.in-Some.is in
     let found = knows _ c.self.invariant c.args.topic.now c.in-Some.number known in
     goes_both g.D.Disk _ _ _ c.args.disk.now c.read.new.disk c.self.view_is
-    (read_goes g.D.Disk c.args.disk.now c.read.new.disk c.in-Err-NoMemory.ensures.images c.in-Err-NoMemory.ensures.seen _ c.self.invariant (subst IsWhole (sym c.self.view_is) c.requires.whole)
+    (read_goes g.D.Disk c.args.disk.now c.read.new.disk c.in-Err-NoMemory.ensures.images c.in-Err-NoMemory.ensures.seen _ c.self.invariant
     (subst (IsBacked (g.D.Disk.image c.args.disk.now)) (sym c.self.view_is) c.requires.backed) c.args.topic.now c.in-Some.number known c.index-part.result.now (at_known _ _ _ _ found _ c.index-part.ensures) _ _ c.in-Err-NoMemory.ensures.cause (λ h. cc))
 
 pub returns-in_default-clause-damaged : goal.returns-in_default-clause-damaged
@@ -121,7 +121,7 @@ read-requires-clause-reads g c = λ told.
     begins_with StandsIn ExactlyIn BeginsIn begins image c.index-part.result.now.content backed _ (g.met.D.Disk.seen_is_image c.args.disk.now told)
 
 pub returns-in_default-clause-goes : goal.returns-in_default-clause-goes
-returns-in_default-clause-goes g c = goes_quiet g.D.Disk c.unknown_part.result (unknown_quiet c.args.topic.now c.unknown_part.result c.unknown_part.ensures) c.args.self.now c.args.disk.now c.requires.whole c.requires.backed
+returns-in_default-clause-goes g c = goes_quiet g.D.Disk c.unknown_part.result (unknown_quiet c.args.topic.now c.unknown_part.result c.unknown_part.ensures) c.args.self.now c.args.disk.now c.requires.backed
 
 pub returns-in_default-new-clause-goes : goal.returns-in_default-new-clause-goes
-returns-in_default-new-clause-goes g c = goes_quiet g.D.Disk (reply.No no.NoMemory) refl c.args.self.now c.args.disk.now c.requires.whole c.requires.backed
+returns-in_default-new-clause-goes g c = goes_quiet g.D.Disk (reply.No no.NoMemory) refl c.args.self.now c.args.disk.now c.requires.backed

@@ -99,7 +99,7 @@ returns-in_default-clause-early g c = λ row is.
 
 pub returns-in-Status-clause-goes : goal.returns-in-Status-clause-goes
 returns-in-Status-clause-goes g c =
-    goes_still g.D.Disk _ (λ is. false≢true (sym c.status.ensures.no_fault ∙ is)) c.args.self.now c.args.self.now c.args.disk.now c.requires.whole c.requires.backed refl refl refl
+    goes_still g.D.Disk _ (λ is. false≢true (sym c.status.ensures.no_fault ∙ is)) c.args.self.now c.args.self.now c.args.disk.now c.requires.backed refl refl refl
 
 pub returns-in_default-clause-goes : goal.returns-in_default-clause-goes
 returns-in_default-clause-goes g c =

@@ -8,7 +8,8 @@ use Rattle.txn_engine.specs.declared.opening.EngineError.TheVariants as engine
 use Rattle.txn_engine.specs.Kept.{AreTopics}
 use Rattle.txn_engine.specs.Opening.{IsDamagedTopic, IsTopicOf}
 use Rattle.txn_engine.proofs.Files.{only_one, only_then, images_change, images_then}
-use Rattle.txn_engine.proofs.Going.{counts_of, counts_then, files_apart}
+use Rattle.txn_engine.proofs.Going.{counts_of, counts_then}
+use Rattle.txn_engine.proofs.Elsewhere.{files_apart}
 use Rattle.txn_engine.proofs.OpeningAll.{topics_more, told_more, ledger_told}
 use Rattle.txn_engine.proofs.OpeningFiles.{keeps_of, keeps_then, topics_kept, damaged_all, damaged_then}
 use Rattle.txn_engine.proofs.opening.topics.open_topics.Goals as goal
