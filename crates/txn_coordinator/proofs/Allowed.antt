@@ -11,9 +11,9 @@ use Rattle.txn_base.specs.declared.core_entry.CoreEntry.{CoreEntry}
 use Rattle.txn_model.specs.Skeletons.{coord_skeleton}
 use Rattle.txn_model.specs.Coord.{status_of, decision_of, is_open, is_deciding, coord_allows, CoordLawful}
 use Rattle.txn_model.specs.Deadlines.{is_undriven}
-use Rattle.txn_coordinator.specs.Table.{decision_in}
+use Rattle.txn_table.specs.Table.{decision_in}
 use Rattle.txn_model.specs.Table.{decision_entry, closing_entry}
-use Rattle.txn_coordinator.proofs.Finding.{decision_by_status}
+use Rattle.txn_table.proofs.Laws.{decision_by_status}
 
 decide_allowed : (c : List CoreEntry) (x : TxnId) (d : Decision) → is_open (status_of c x) ≡ true → coord_allows 62 c (coord_skeleton (decision_entry x d)) ≡ true
 decide_allowed c x Commit h = h

@@ -8,7 +8,7 @@ use Rattle.txn_base.specs.Records.{IsCoordEntry, IsCoordRecord}
 use Rattle.txn_base.specs.Decoded.{coord_entry_of, coord_entries}
 use Rattle.txn_coordinator.specs.Mending.{IsSettledFrom, AreReplayed}
 use Rattle.txn_coordinator.specs.View.{coord_batch}
-use Rattle.txn_coordinator.proofs.Applied.{records-push, coord_entries-push}
+use Rattle.txn_table.proofs.Laws.{records-push, coord_entries-push}
 
 -- with one more in both
 pub tied_more : (s0 s1 s2 : LedgerContent) (f0 f1 f2 : List CoordEntry) (e : CoordEntry) → IsCoordEntry e → length f0 ≡ length (records s0.batches)

@@ -1,12 +1,6 @@
 pub mod Laws
-pub mod Following
 pub mod Allowed
-pub mod Applied
-pub mod Entry
-pub mod Finding
 pub mod Fronts
-pub mod Records
 pub mod Replayed
-pub mod Rows
 pub mod Steps
 pub mod BatchRecords

@@ -16,9 +16,8 @@ use Rattle.txn_base.specs.Decoded.{coord_entry_of, coord_entries}
 use Rattle.txn_model.specs.Skeletons.{coord_skeleton, coord_skeletons}
 use Rattle.txn_model.specs.Coord.{coord_allows, CoordLawful, status_of, in_parts, is_open}
 use Rattle.txn_coordinator.specs.Mending.{record_in, AreRecordsFrom, AreRecordsTo, AreInGrammar, AreReplayed, IsFirstBadRecord}
-use Rattle.txn_coordinator.specs.Table.{AreEntries}
-use Rattle.txn_coordinator.proofs.Records.{coord_back}
-use Rattle.txn_coordinator.proofs.Rows.{lawful_more, entries_more}
+use Rattle.txn_table.specs.Table.{AreEntries}
+use Rattle.txn_table.proofs.Laws.{coord_back, lawful_more, entries_more}
 
 -- the entry that is read off a record
 decoded : (bytes : Record) (e : CoordEntry) → IsCoordRecord bytes e → coord_entry_of bytes ≡ e

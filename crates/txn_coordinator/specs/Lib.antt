@@ -1,4 +1,3 @@
 pub mod Calls
 pub mod Mending
-pub mod Table
 pub mod View

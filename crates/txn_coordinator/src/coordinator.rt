@@ -10,11 +10,11 @@ ghost use Rattle.txn_model.specs.Deadlines.{low_of, first_undriven};
 ghost use Rattle.txn_coordinator.specs.View.{coord_total, state_of, first_view};
 
 use crate::log_entry::RECORD;
-use crate::table::Table;
 use std::alloc::{AllocError, Global};
 use std::marker::Model;
 use txn_base::{Bytes, Decision, Limits, PartState, Status, TxnId};
 use txn_ledger::RecordLog;
+use txn_table::Table;
 
 mod changes;
 mod mend;
@@ -116,7 +116,7 @@ impl<R: RecordLog> Coordinator<R> {
         self.table.decision(txn)
     }
 
-    /// The least numbered transaction that is decided and not closed. It looks through those from the low watermark on.
+    /// The least numbered transaction that is decided and not closed.
     pub fn first_undriven(&self) -> Option<TxnId>
         ensures { result ≡ first_undriven self.now.front }
     {

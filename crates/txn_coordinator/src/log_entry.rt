@@ -7,16 +7,14 @@ ghost use Rattle.txn_base.specs.Disk.{ChangesOnly};
 ghost use Rattle.txn_base.specs.Records.{IsCoordEntry};
 ghost use Rattle.txn_base.specs.Room.{capacity};
 ghost use Rattle.txn_base.specs.Moves.{After, FailsIn};
-ghost use Rattle.txn_model.specs.Skeletons.{coord_skeleton, coord_skeletons};
-ghost use Rattle.txn_model.specs.Coord.{coord_allows};
-ghost use Rattle.txn_coordinator.specs.Table.{is_new_entry};
 ghost use Rattle.txn_coordinator.specs.View.{coord_batch};
+ghost use Rattle.txn_table.specs.Table.{is_new_entry, may_follow};
 
-use crate::table::Table;
 use std::slice;
 use txn_base::{Bytes, CoordEntry, Disk, Failed};
 use txn_ledger::RecordLog;
 use txn_records::put_coord;
+use txn_table::Table;
 
 /// The length of the longest record of an entry, in bytes.
 pub const RECORD: usize = 26;
@@ -35,7 +33,7 @@ pub fn log_entry<D: Disk, R: RecordLog>(
 ) -> Result<(), Failed>
     requires settled { (R.content log.old).standing ≡ settled }
     requires fits { IsCoordEntry entry }
-    requires allowed { coord_allows 62 (coord_skeletons table.old.front) (coord_skeleton entry) ≡ true }
+    requires allowed { may_follow 62 table.old.front entry ≡ true }
     requires table_room { is_new_entry entry ≡ true → 1 ≤ table.old.room }
     requires bytes { 26 ≤ capacity bytes.old }
     requires spare { 1 ≤ R.spare log.old }

@@ -8,17 +8,16 @@ ghost use Rattle.txn_base.specs.Frames.{records};
 ghost use Rattle.txn_base.specs.Records.{IsCoordEntry, IsCoordRecord};
 ghost use Rattle.txn_base.specs.Moves.{After, FaultsIn};
 ghost use Rattle.txn_coordinator.specs.Mending.{record_in, AreRecordsFrom, AreRecordsTo, AreReplayed, IsFirstBadRecord};
-ghost use Rattle.txn_coordinator.specs.Table.{AreEntries};
 ghost use Rattle.txn_model.specs.Coord.{CoordLawful};
 ghost use Rattle.txn_model.specs.Skeletons.{coord_skeletons};
+ghost use Rattle.txn_table.specs.Table.{AreEntries};
 
-use crate::ahead::allows;
-use crate::table::Table;
 use std::alloc::Global;
 use std::sync::ledger;
 use txn_base::{CoordEntry, Disk, MendError, Steps};
 use txn_ledger::{GetError, RecordLog};
 use txn_records::read_coord;
+use txn_table::Table;
 
 /// Reads a record and its entry.
 fn read_entry<D: Disk, L: ledger::Ledger, R: RecordLog>(
@@ -85,7 +84,7 @@ pub fn stage<D: Disk, L: ledger::Ledger, R: RecordLog>(
     };
     for place in at..end {
         let entry = read_entry(log, disk, place, steps)?;
-        if !allows(table, staged.as_slice(), named, &entry) {
+        if !table.allows_after(staged.as_slice(), named, &entry) {
             return Err(MendError::Damaged { place });
         }
         staged.push_reserved(entry);

@@ -1,21 +1,19 @@
 -- The first number that passes a test, and what a table finds.
-use Rattle.std.proofs.Common.{◌≡◌, ℕ, zero, suc, ◌+◌, ◌<◌, ◌≤◌, arith, ⊎_elim, Bool, true, false, cond, not, List, [], ◌∷◌, length, get_or, Some, None, refl, sym, ap, ◌∙◌, subst, true≢false}
+use Rattle.std.proofs.Common.{◌≡◌, ℕ, zero, suc, ◌+◌, ◌<◌, ◌≤◌, arith, ⊎_elim, Bool, true, false, cond, not, List, [], ◌∷◌, length, get_or, Some, None, refl, sym, ap, ◌∙◌, true≢false}
 use Rattle.std.specs.Prelude.{Option, map, find, option_map, unwrap_or}
 use Rattle.std.proofs.lemmas.Bool.{cases_lt}
 use Rattle.txn_base.specs.declared.txn.TxnId.{TxnId}
 use Rattle.txn_base.specs.declared.txn.Decision.{Decision}
 use Rattle.txn_base.specs.declared.txn.Decision.TheVariants.{Commit, Abort}
-use Rattle.txn_base.specs.declared.txn.Status.{Status}
-use Rattle.txn_base.specs.declared.txn.Status.TheVariants.{Open, Committing, Committed, Aborting, Aborted}
 use Rattle.txn_base.specs.declared.entry.CoordEntry.{CoordEntry}
 use Rattle.txn_base.specs.declared.core_entry.CoreEntry.{CoreEntry}
-use Rattle.txn_model.specs.Words.{numbers_from, below}
+use Rattle.txn_model.specs.Words.{numbers_from}
 use Rattle.txn_model.specs.Skeletons.{coord_skeletons}
 use Rattle.txn_model.specs.Coord.{has_new, count_new, status_of, decision_of, closing_of, CoordLawful}
-use Rattle.txn_model.specs.Deadlines.{txn, is_closed, is_undriven, low_of, first_undriven}
+use Rattle.txn_model.specs.Deadlines.{txn, is_closed, low_of}
 use Rattle.txn_model.proofs.Laws.Logs.{Agrees, last_by, status_by, lawful_agrees}
 use Rattle.txn_table.specs.declared.row.Row.{Row}
-use Rattle.txn_table.specs.Table.{AreRows, IsTable, empty_row, decision_in}
+use Rattle.txn_table.specs.Table.{AreRows, IsTable, decision_in}
 use Rattle.txn_table.proofs.Rows.{status_of_row}
 
 -- ---- Numbers.
@@ -71,32 +69,6 @@ module _ (rows : List Row) (low : ℕ) (c : List CoordEntry) (row : Row) (is : I
       ∙ omega (arith, ge, is.are.count, is.low_is.passed.within))
       (cases_lt low (length rows))
 
-  closed_driven : (s : Status) → is_closed (Some s) ≡ true → is_undriven (Some s) ≡ false
-  closed_driven Open h = refl
-  closed_driven Committing h = sym h
-  closed_driven Committed h = refl
-  closed_driven Aborting h = sym h
-  closed_driven Aborted h = refl
-
-  -- none up to here is undriven
-  abbrev pub DrivenTo : ℕ → Type 0
-  DrivenTo at = (j : ℕ) → low ≤ j → j < at → is_undriven (Some (get_or rows j row).status) ≡ false
-
-  driven : (at j : ℕ) → at ≤ length rows → DrivenTo at → j < at → is_undriven (status_of (coord_skeletons c) (txn j)) ≡ false
-  driven at j within to lt =
-      ap is_undriven (status_at rows c j row is.are (omega (arith, lt, within))) ∙ ⊎_elim (λ under. closed_driven (get_or rows j row).status (is.low_is.passed.below j row under)) (λ from. to j from lt) (cases_lt j low)
-
-  pub undriven_found : (at : ℕ) → at < length rows → DrivenTo at → is_undriven (Some (get_or rows at row).status) ≡ true → Some (txn at) ≡ first_undriven c
-  undriven_found at lt to here =
-      sym (find-map txn (λ x. is_undriven (status_of (coord_skeletons c) x)) (below (count_new (coord_skeletons c)))
-      ∙ ap (option_map txn) (found (λ k. is_undriven (status_of (coord_skeletons c) (txn k))) 0 (count_new (coord_skeletons c)) at (omega arith) (omega (arith, lt, is.are.count))
-      (λ j l h. driven at j (omega (arith, lt)) to h) (ap is_undriven (status_at rows c at row is.are lt) ∙ here)))
-
-  pub undriven_none : DrivenTo (length rows) → None ≡ first_undriven c
-  undriven_none to =
-      sym (find-map txn (λ x. is_undriven (status_of (coord_skeletons c) x)) (below (count_new (coord_skeletons c)))
-      ∙ ap (option_map txn) (found_none (λ k. is_undriven (status_of (coord_skeletons c) (txn k))) 0 (count_new (coord_skeletons c)) (λ j l h. driven (length rows) j (omega arith) to (omega (arith, h, is.are.count)))))
-
 -- ---- A decision, by the status.
 
 pub decision_by_status : (c : List CoreEntry) (x : TxnId) → CoordLawful 62 c → decision_in (status_of c x) ≡ decision_of c x
@@ -115,17 +87,3 @@ decision_by_status c x lawful =
     by_cases true None None closed decided = refl
     by_cases true None (Some Commit) closed decided = refl
     by_cases true None (Some Abort) closed decided = refl
-
--- ---- What is read.
-
-pub undriven_read : (c front : List CoordEntry) (rows read : List Row) (low at : ℕ) → c ≡ front → read ≡ rows → IsTable rows low c → at < length read
-    → ((j : ℕ) → low ≤ j → j < at → is_undriven (Some (get_or read j empty_row).status) ≡ false) → is_undriven (Some (get_or read at empty_row).status) ≡ true → Some (txn at) ≡ first_undriven front
-undriven_read c front rows read low at e r is =
-    subst (λ (l : List Row). at < length l → ((j : ℕ) → low ≤ j → j < at → is_undriven (Some (get_or l j empty_row).status) ≡ false) → is_undriven (Some (get_or l at empty_row).status) ≡ true → Some (txn at) ≡ first_undriven front) (sym r)
-    (λ lt to here. undriven_found rows low c empty_row is at lt to here ∙ ap first_undriven e)
-
-pub undriven_read_none : (c front : List CoordEntry) (rows read : List Row) (low at : ℕ) → c ≡ front → read ≡ rows → IsTable rows low c → length read ≤ at
-    → ((j : ℕ) → low ≤ j → j < at → is_undriven (Some (get_or read j empty_row).status) ≡ false) → None ≡ first_undriven front
-undriven_read_none c front rows read low at e r is =
-    subst (λ (l : List Row). length l ≤ at → ((j : ℕ) → low ≤ j → j < at → is_undriven (Some (get_or l j empty_row).status) ≡ false) → None ≡ first_undriven front) (sym r)
-    (λ past to. undriven_none rows low c empty_row is (λ j from lt. to j from (omega (arith, lt, past))) ∙ ap first_undriven e)

@@ -13,10 +13,10 @@ ghost use Rattle.txn_coordinator.specs.View.{coord_total, IsFrontOf};
 
 use crate::coordinator::Coordinator;
 use crate::replay::replay;
-use crate::table::Table;
 use std::sync::ledger;
 use txn_base::{Disk, Failed, MendError, Progress, Steps};
 use txn_ledger::RecordLog;
+use txn_table::Table;
 
 /// Settles a log that isn't settled.
 fn settle_log<D: Disk, R: RecordLog>(log: &mut R, disk: &mut D) -> Result<(), Failed>

@@ -1,4 +1,4 @@
-use Rattle.txn_coordinator.proofs.Following.{next_fits, next_allowed}
+use Rattle.txn_table.proofs.Laws.{next_fits, next_allowed}
 use Rattle.txn_coordinator.proofs.replay.apply_all.Goals as goal
 
 pub apply-requires-clause-fits : goal.apply-requires-clause-fits

@@ -6,17 +6,17 @@ use Rattle.txn_base.specs.Frames.{records}
 use Rattle.txn_model.specs.Skeletons.{coord_skeleton, coord_skeletons}
 use Rattle.txn_model.specs.Coord.{coord_allows, CoordLawful}
 use Rattle.txn_coordinator.specs.Mending.{AreRecordsFrom, AreReplayed, IsFirstBadRecord}
-use Rattle.txn_coordinator.specs.Table.{AreEntries}
+use Rattle.txn_table.specs.Table.{AreEntries}
 use Rattle.txn_coordinator.proofs.Replayed.{entries_next, read_more, tied_next, allowed_few, lawful_next, replayed_next, bad_here, allows_read}
 use Rattle.txn_coordinator.proofs.Steps.{same_then, faults_then, faults_quiet}
 use Rattle.txn_coordinator.proofs.replay.stage.Goals as goal
 
-pub returns-then-not-allows-clause-bad : goal.returns-then-not-allows-clause-bad
-returns-then-not-allows-clause-bad g c = λ told was place is.
+pub returns-then-not-allows_after-clause-bad : goal.returns-then-not-allows_after-clause-bad
+returns-then-not-allows_after-clause-bad g c = λ told was place is.
     let here : c.loop-place.place ≡ place = cc in
     let lt : c.loop-place.place < length (records (g.R.RecordLog.content c.args.log.now).batches) = omega arith in
     let refused : coord_allows c.args.named (coord_skeletons (c.args.table.now.front ++ c.loop-place.staged.items)) (coord_skeleton c.in_ok-entry.entry) ≡ false =
-    allows_read c.args.named c.args.table.now.front c.loop-place.staged.items c.as_slice.result.now c.in_ok-entry.entry _ _ c.as_slice.ensures.value c.allows.ensures c.if-not-allows.true in
+    allows_read c.args.named c.args.table.now.front c.loop-place.staged.items c.as_slice.result.now c.in_ok-entry.entry _ _ c.as_slice.ensures.value c.allows_after.ensures c.if-not-allows_after.true in
     let count : length (c.args.table.now.front ++ c.loop-place.staged.items) ≡ c.loop-place.place = omega (arith, c.loop-place.invariant.count, c.requires.at, length-append c.args.table.now.front c.loop-place.staged.items) in
     subst (λ (p : ℕ). IsFirstBadRecord c.args.named (g.R.RecordLog.content c.args.log.now) p) here
     (bad_here c.args.named (g.R.RecordLog.content c.args.log.now) c.args.table.now.front c.loop-place.staged.items c.loop-place.place lt count (c.loop-place.invariant.replayed told was) c.in_ok-entry.entry (c.in_ok-entry.ensures.read told) refused)
@@ -29,7 +29,7 @@ pub loop-place-preserved : goal.loop-place-preserved
 loop-place-preserved g c =
     let pushed : c.push_reserved.new.self.items ≡ c.loop-place.staged.items ++ c.in_ok-entry.entry ∷ [] = c.push_reserved.ensures.items in
     let allowed : coord_allows c.args.named (coord_skeletons (c.args.table.now.front ++ c.loop-place.staged.items)) (coord_skeleton c.in_ok-entry.entry) ≡ true =
-    allows_read c.args.named c.args.table.now.front c.loop-place.staged.items c.as_slice.result.now c.in_ok-entry.entry _ _ c.as_slice.ensures.value c.allows.ensures c.if-not-allows.false in
+    allows_read c.args.named c.args.table.now.front c.loop-place.staged.items c.as_slice.result.now c.in_ok-entry.entry _ _ c.as_slice.ensures.value c.allows_after.ensures c.if-not-allows_after.false in
     let lt : c.loop-place.place < length (records (g.R.RecordLog.content c.args.log.now).batches) = omega arith in
     let count : length (c.args.table.now.front ++ c.loop-place.staged.items) ≡ c.loop-place.place = omega (arith, c.loop-place.invariant.count, c.requires.at, length-append c.args.table.now.front c.loop-place.staged.items) in
     record {

@@ -5,7 +5,7 @@ use Rattle.txn_base.specs.Disk.{Same, CountsFaults}
 use Rattle.txn_coordinator.specs.Mending.{AreRecordsFrom, AreReplayed}
 use Rattle.txn_model.specs.Coord.{CoordLawful}
 use Rattle.txn_model.specs.Skeletons.{coord_skeletons}
-use Rattle.txn_coordinator.specs.Table.{AreEntries}
+use Rattle.txn_table.specs.Table.{AreEntries}
 use Rattle.txn_coordinator.proofs.replay.stage.Given as goal
 
 abbrev pub invariant-loop-place : goal.invariant-loop-place
