@@ -4,3 +4,5 @@
 pub use Rattle.txn_coordinator.proofs.BatchRecords.{entry_records}
 -- The parts of a transaction after one entry more; and each transaction is the same as itself.
 pub use Rattle.txn_table.proofs.Laws.{in_parts-push, same_itself}
+-- The entries after one that may follow.
+pub use Rattle.txn_table.proofs.Laws.{lawful_more}

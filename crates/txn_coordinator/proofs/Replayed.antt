@@ -1,20 +1,17 @@
 -- The records that a replay reads, one more.
-use Rattle.std.proofs.Common.{◌≡◌, ℕ, ◌+◌, ◌-◌, ◌<◌, ◌≤◌, nat_le, ⊎_elim, arith, Bool, true, false, ◌&&◌, not, List, [], ◌∷◌, ◌++◌, length, length-append, get_or, take, All, refl, sym, ap, ◌∙◌, subst, true≢false}
+use Rattle.std.proofs.Common.{◌≡◌, ℕ, ◌+◌, ◌-◌, ◌<◌, ⊎_elim, arith, Bool, true, false, List, [], ◌∷◌, ◌++◌, length, length-append, get_or, take, All, sym, ap, ◌∙◌, subst}
 use Rattle.std.proofs.lemmas.Bool.{cases_lt}
-use Rattle.std.proofs.lemmas.Bool.Decides.{nat_tests}
 use Rattle.std.proofs.lemmas.List.Elements.{All-push}
 use Rattle.std.proofs.lemmas.List.{append_assoc, take_more, get_or_append_left, get_or-append-add, length-map}
 use Rattle.std.proofs.Math.ListN.{get_or-map}
 use Rattle.std.proofs.Math.Seq.{get_or-append_seam}
-use Rattle.txn_base.specs.declared.core_entry.CoreEntry.{CoreEntry}
-use Rattle.txn_base.specs.declared.core_entry.CoreEntry.TheVariants as core
 use Rattle.txn_base.specs.declared.entry.CoordEntry.{CoordEntry}
 use Rattle.txn_base.specs.Content.{LedgerContent}
 use Rattle.txn_base.specs.Frames.{Record, records}
 use Rattle.txn_base.specs.Records.{IsCoordEntry, IsCoordRecord}
 use Rattle.txn_base.specs.Decoded.{coord_entry_of, coord_entries}
 use Rattle.txn_model.specs.Skeletons.{coord_skeleton, coord_skeletons}
-use Rattle.txn_model.specs.Coord.{coord_allows, CoordLawful, status_of, in_parts, is_open}
+use Rattle.txn_model.specs.Coord.{coord_allows, CoordLawful}
 use Rattle.txn_coordinator.specs.Mending.{record_in, AreRecordsFrom, AreRecordsTo, AreInGrammar, AreReplayed, IsFirstBadRecord}
 use Rattle.txn_table.specs.Table.{AreEntries}
 use Rattle.txn_table.proofs.Laws.{coord_back, lawful_more, entries_more}
@@ -56,29 +53,6 @@ read_to content front xs grown at end at_is count same are = λ k e from to.
     subst (λ j. IsCoordRecord (record_in content j) (get_or grown j e)) there (subst (λ (f : CoordEntry). IsCoordRecord (record_in content (at + (k - at))) f) (sym entry) (are (k - at) e lt))
 
 -- ---- With n named parts.
-
-le_more : (p n : ℕ) → n ≤ 62 → nat_le p n ≡ true → nat_le p 62 ≡ true
-le_more p n few h = grind (arith, nat_tests, few, h)
-
-part_few : (a b c d e : Bool) → (c ≡ true → d ≡ true) → (a && b && c && e) ≡ true → (a && b && d && e) ≡ true
-part_few true true true true true means h = refl
-part_few true true true true false means h = h
-part_few true true true false e means h = absurd (true≢false (sym (means refl)))
-part_few true true false d e means h = absurd (true≢false (sym h))
-part_few true false c d e means h = h
-part_few false b c d e means h = h
-
--- what is allowed with fewer parts is with more
-pub allowed_few : (n : ℕ) (c : List CoreEntry) (e : CoreEntry) → n ≤ 62 → coord_allows n c e ≡ true → coord_allows 62 c e ≡ true
-allowed_few n c (core.New x) few h = h
-allowed_few n c (core.AddPart x p) few h = part_few (is_open (status_of c x)) (nat_le 1 p) (nat_le p n) (nat_le p 62) (not (in_parts c x p)) (le_more p n few) h
-allowed_few n c (core.Committing x) few h = h
-allowed_few n c (core.Aborting x) few h = h
-allowed_few n c (core.Committed x) few h = h
-allowed_few n c (core.Aborted x) few h = h
-allowed_few n c core.Plain few h = absurd (true≢false (sym h))
-allowed_few n c (core.Inside x) few h = absurd (true≢false (sym h))
-allowed_few n c (core.Marker x d) few h = absurd (true≢false (sym h))
 
 pub lawful_next : (n : ℕ) (front xs : List CoordEntry) (e : CoordEntry) → CoordLawful n (coord_skeletons (front ++ xs)) → coord_allows n (coord_skeletons (front ++ xs)) (coord_skeleton e) ≡ true → CoordLawful n (coord_skeletons (front ++ (xs ++ e ∷ [])))
 lawful_next n front xs e lawful h = subst (λ (l : List CoordEntry). CoordLawful n (coord_skeletons l)) (append_assoc front xs (e ∷ [])) (lawful_more n (front ++ xs) e lawful h)

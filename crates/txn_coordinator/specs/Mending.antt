@@ -44,6 +44,12 @@ pub record IsFirstBadRecord (n : ℕ) (content : LedgerContent) (place : ℕ) : 
 abbrev pub IsSettledFrom : LedgerContent → LedgerContent → Type 0
 IsSettledFrom old new = (new ≡ kept old) ⊎ (new ≡ dropped old)
 
+-- The record at this place is one of those that a step reads: behind the front, at most `step` of them, and in the list.
+pub record IsInStep (old new : CoordView) (place : ℕ) : Type 0 where
+  pub from : length old.front ≤ place
+  pub to : place < length old.front + old.limits.step
+  pub within : place < coord_total new
+
 -- A step that isn't refused: it settles the log, and adds the entries of the next records, `step` of them or all that are
 -- left. The low watermark of the opening is that of the moment when the coordinator is whole for the first time.
 pub record Mends (old new : CoordView) : Type 0 where

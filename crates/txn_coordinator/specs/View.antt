@@ -8,6 +8,8 @@ use Rattle.txn_base.specs.Content.{LedgerContent, settled, landed, begun}
 use Rattle.txn_base.specs.Frames.{Batch, records}
 use Rattle.txn_base.specs.Decoded.{coord_entries}
 use Rattle.txn_base.specs.Records.{coord_record}
+use Rattle.txn_model.specs.Coord.{CoordLawful}
+use Rattle.txn_model.specs.Skeletons.{coord_skeletons}
 
 -- What its log holds; the entries that were replayed from it or added since, of which all its state speaks; whether these
 -- are all of the log's; how many closes have room reserved, 0 or 1; the low watermark when it was whole for the first
@@ -94,8 +96,8 @@ first_view named content limits =
       named = named;
     }
 
--- What a coordinator keeps of its fields: how many names there may be, the number of its entries, room in the log for a close that was reserved, and
--- room for a record.
+-- What a coordinator keeps of its fields: how many names there may be, that its entries are lawful with so many, the number of
+-- its entries, room in the log for a close that was reserved, and room for a record.
 pub record CoordinatorInvariant (named : ℕ) (content : LedgerContent) (front : List CoordEntry) (at : ℕ) (whole was_whole reserved : Bool) (spare room bytes : ℕ) : Type 0 where
   pub at_is : at ≡ length front
   pub within : length front ≤ length (records content.batches)
@@ -106,3 +108,4 @@ pub record CoordinatorInvariant (named : ℕ) (content : LedgerContent) (front :
   pub room_when : IsTrue reserved → 33 ≤ room
   pub bytes_room : 26 ≤ bytes
   pub few_named : named ≤ 62
+  pub lawful : CoordLawful named (coord_skeletons front)

@@ -155,7 +155,7 @@ impl<R: RecordLog> Coordinator<R> {
     pub fn state(&self) -> PartState
         ensures state { result ≡ state_of self.now }
         ensures entries { All IsCoordEntry self.now.front }
-        ensures lawful { CoordLawful 62 (coord_skeletons self.now.front) }
+        ensures lawful { CoordLawful self.now.named (coord_skeletons self.now.front) }
         ensures within { length self.now.front ≤ coord_total self.now }
         ensures whole { IsTrue self.now.whole → length self.now.front ≡ coord_total self.now }
         ensures settled { IsTrue self.now.whole → self.now.content.standing ≡ settled }

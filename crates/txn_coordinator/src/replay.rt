@@ -64,12 +64,13 @@ pub fn stage<D: Disk, L: ledger::Ledger, R: RecordLog>(
     requires within { end ≤ length (records (R.content log.now).batches) }
     requires named { named ≤ 62 }
     requires kept { AreEntries table.now.front }
+    requires lawful { CoordLawful named (coord_skeletons table.now.front) }
     requires reads { ReadsOn R.RecordLog D.Disk disk.old (R.content log.now) }
     ensures entries { IfOk result (λ staged. AreEntries (table.now.front ++ staged.items)) }
     ensures count { IfOk result (λ staged. length staged.items + at ≡ end) }
     ensures read { D.tells → IfOk result (λ staged. AreRecordsFrom (R.content log.now) at staged.items) }
     ensures tied { D.tells → table.now.front ≡ take at (coord_entries (R.content log.now).batches) → IfOk result (λ staged. table.now.front ++ staged.items ≡ take end (coord_entries (R.content log.now).batches)) }
-    ensures lawful { CoordLawful named (coord_skeletons table.now.front) → IfOk result (λ staged. CoordLawful named (coord_skeletons (table.now.front ++ staged.items))) }
+    ensures lawful { IfOk result (λ staged. CoordLawful named (coord_skeletons (table.now.front ++ staged.items))) }
     ensures replayed { D.tells → AreReplayed named (R.content log.now) table.now.front → IfOk result (λ staged. AreReplayed named (R.content log.now) (table.now.front ++ staged.items)) }
     ensures damaged { (place : ℕ) → result ≡ Err (MendError.Damaged place) → (at ≤ place) × (place < end) }
     ensures bad { D.tells → AreReplayed named (R.content log.now) table.now.front → (place : ℕ) → result ≡ Err (MendError.Damaged place) → IsFirstBadRecord named (R.content log.now) place }
@@ -119,13 +120,14 @@ pub fn replay<D: Disk, L: ledger::Ledger, R: RecordLog>(
     requires order { at ≤ end }
     requires within { end ≤ length (records (R.content log.now).batches) }
     requires named { named ≤ 62 }
+    requires lawful { CoordLawful named (coord_skeletons table.old.front) }
     requires reads { ReadsOn R.RecordLog D.Disk disk.old (R.content log.now) }
     ensures grown { OnOk result (length table.new.front ≡ end) }
     ensures extends { OnOk result (table.old.front ≡ take at table.new.front) }
     ensures same { OnErr result (table.new.front ≡ table.old.front) }
     ensures read { D.tells → OnOk result (AreRecordsTo (R.content log.now) at end table.new.front) }
     ensures tied { D.tells → table.old.front ≡ take at (coord_entries (R.content log.now).batches) → OnOk result (table.new.front ≡ take end (coord_entries (R.content log.now).batches)) }
-    ensures lawful { CoordLawful named (coord_skeletons table.old.front) → CoordLawful named (coord_skeletons table.new.front) }
+    ensures lawful { CoordLawful named (coord_skeletons table.new.front) }
     ensures replayed { D.tells → AreReplayed named (R.content log.now) table.old.front → AreReplayed named (R.content log.now) table.new.front }
     ensures damaged { (place : ℕ) → result ≡ Err (MendError.Damaged place) → (at ≤ place) × (place < end) }
     ensures bad { D.tells → AreReplayed named (R.content log.now) table.old.front → (place : ℕ) → result ≡ Err (MendError.Damaged place) → IsFirstBadRecord named (R.content log.now) place }

@@ -1,9 +1,7 @@
 -- What an engine keeps of its coordinator, through the calls of the coordinator.
-use Rattle.std.proofs.Common.{◌≡◌, ◌⊎◌, inl, inr, ℕ, ◌+◌, ◌^◌, ◌≤◌, ◌==◌, nat_le, Bool, true, false, List, [], ◌∷◌, ◌++◌, length, Option, Some, None, Result, Ok, Err, MatchOption, IsTrue, refl, sym, ap, ◌∙◌, subst, arith, length-append, append_assoc}
-use Rattle.std.proofs.lemmas.Bool.{and_parts}
+use Rattle.std.proofs.Common.{◌≡◌, ◌⊎◌, inl, inr, ℕ, ◌+◌, ◌^◌, ◌≤◌, ◌==◌, nat_le, Bool, true, false, List, [], ◌∷◌, ◌++◌, length, Option, Some, None, Result, Ok, Err, MatchOption, IsTrue, refl, sym, ap, ◌∙◌, subst, arith, length-append}
 use Rattle.std.proofs.lemmas.Bool.Decides.{nat_tests}
 use Rattle.std.proofs.lemmas.Grind.{flat_map-append}
-use Rattle.std.proofs.lemmas.List.{map-append}
 use Rattle.txn_base.specs.declared.core_entry.CoreEntry.{CoreEntry}
 use Rattle.txn_base.specs.declared.core_entry.CoreEntry.TheVariants as core
 use Rattle.txn_base.specs.declared.entry.CoordEntry.{CoordEntry}
@@ -12,31 +10,15 @@ use Rattle.txn_base.specs.declared.txn.TxnId.{TxnId}
 use Rattle.txn_base.specs.declared.txn.Status.{Status}
 use Rattle.txn_base.specs.declared.txn.Status.TheVariants.{Open, Committing, Committed, Aborting, Aborted}
 use Rattle.txn_base.specs.Frames.{Batch as FrameBatch, records}
-use Rattle.txn_model.specs.Coord.{CoordLawful, coord_allows, status_of, in_parts, count_new, is_open}
+use Rattle.txn_model.specs.Coord.{coord_allows, status_of, in_parts, count_new, is_open}
 use Rattle.txn_model.specs.Skeletons.{coord_skeleton, coord_skeletons}
-use Rattle.txn_model.specs.Words.{all_follow}
 use Rattle.txn_coordinator.specs.declared.error.CoordError.{CoordError}
 use Rattle.txn_coordinator.specs.declared.error.CoordError.TheVariants as coord_error
 use Rattle.txn_coordinator.specs.Calls.{MayFail, add_refusal_at}
+use Rattle.txn_coordinator.proofs.Laws.{lawful_more}
 use Rattle.txn_coordinator.specs.View.{CoordView, coord_batch, with_entry, with_failed_entry, reserving}
 use Rattle.txn_engine.specs.Kept.{IsCoordinator, IsEngine}
 use Rattle.txn_engine.specs.View.{EngineView}
-
--- ---- A lawful log, and an entry that it allows.
-
-follow_more : {E : Type 0} (allows : List E → E → Bool) (before es : List E) (e : E) → all_follow allows before es ≡ true → allows (before ++ es) e ≡ true → all_follow allows before (es ++ e ∷ []) ≡ true
-follow_more allows before [] e all one = rw (subst (λ xs. allows xs e ≡ true) (append_nil before) one) refl
-  where
-    append_nil : {E : Type 0} (xs : List E) → xs ++ [] ≡ xs
-    append_nil [] = refl
-    append_nil (x ∷ xs) = ap (λ l. x ∷ l) (append_nil xs)
-follow_more allows before (x ∷ es) e all one =
-    let parts = and_parts (allows before x) (all_follow allows (before ++ x ∷ []) es) all in
-    rw (parts.0, follow_more allows (before ++ x ∷ []) es e parts.1 (subst (λ xs. allows xs e ≡ true) (sym (append_assoc before (x ∷ []) es)) one)) refl
-
-pub lawful_more : (n : ℕ) (c : List CoordEntry) (e : CoordEntry) → CoordLawful n (coord_skeletons c) → coord_allows n (coord_skeletons c) (coord_skeleton e) ≡ true → CoordLawful n (coord_skeletons (c ++ e ∷ []))
-lawful_more n c e lawful allowed =
-    subst (CoordLawful n) (sym (map-append coord_skeleton c (e ∷ []))) (follow_more (coord_allows n) [] (coord_skeletons c) (coord_skeleton e) lawful allowed)
 
 -- ---- The coordinator after an entry.
 

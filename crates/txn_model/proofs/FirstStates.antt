@@ -36,7 +36,7 @@ absent (l ∷ ls) p h = by_test (l.0 == p) (p == l.0) refl (λ e. eq-eqb p l.0 (
 
 -- ---- More names allow what fewer do.
 
-more_allowed : (n m : ℕ) (c : List CoreEntry) (e : CoreEntry) → n ≤ m → coord_allows n c e ≡ true → coord_allows m c e ≡ true
+pub more_allowed : (n m : ℕ) (c : List CoreEntry) (e : CoreEntry) → n ≤ m → coord_allows n c e ≡ true → coord_allows m c e ≡ true
 more_allowed n m c (core.AddPart x p) h a =
     let up : (is_open (status_of c x) && nat_le 1 p && nat_le p n) ≡ true = and_l (is_open (status_of c x) && nat_le 1 p && nat_le p n) (not (in_parts c x p)) a in
     let high : p ≤ n = leb-true p n (and_r (is_open (status_of c x) && nat_le 1 p) (nat_le p n) up) in
@@ -52,7 +52,7 @@ more_allowed n m c (core.Committed x) h a = a
 more_allowed n m c (core.Aborting x) h a = a
 more_allowed n m c (core.Aborted x) h a = a
 
-more_follow : (n m : ℕ) (before c : List CoreEntry) → n ≤ m → all_follow (coord_allows n) before c ≡ true → all_follow (coord_allows m) before c ≡ true
+pub more_follow : (n m : ℕ) (before c : List CoreEntry) → n ≤ m → all_follow (coord_allows n) before c ≡ true → all_follow (coord_allows m) before c ≡ true
 more_follow n m before [] h a = refl
 more_follow n m before (e ∷ c) h a =
     and_both (coord_allows m before e) (all_follow (coord_allows m) (before ++ e ∷ []) c)

@@ -6,11 +6,11 @@ ghost use Rattle.txn_base.specs.Content.{Appends};
 ghost use Rattle.txn_base.specs.Disk.{ChangesOnly};
 ghost use Rattle.txn_base.specs.Records.{IsCoordEntry};
 ghost use Rattle.txn_base.specs.Moves.{After, FailsIn, FaultsIn};
-ghost use Rattle.txn_model.specs.Skeletons.{coord_skeleton, coord_skeletons};
-ghost use Rattle.txn_model.specs.Coord.{coord_allows, is_open};
+ghost use Rattle.txn_model.specs.Coord.{is_open};
 ghost use Rattle.txn_model.specs.Deadlines.{is_undriven};
 ghost use Rattle.txn_model.specs.Table.{decision_entry};
 ghost use Rattle.txn_coordinator.specs.View.{coord_batch, with_entry, with_failed_entry, reserving, IsFrontOf};
+ghost use Rattle.txn_table.specs.Table.{may_follow};
 ghost use Rattle.txn_coordinator.specs.Calls.{MayFail, begin_refusal, next_txn, add_refusal, has_part, status_in_view, with_part, decide_refusal, decided, decided_status, closing_of_view};
 
 use crate::coordinator::Coordinator;
@@ -36,7 +36,7 @@ impl<R: RecordLog> Coordinator<R> {
     fn add_entry<D: Disk>(&mut self, disk: &mut D, entry: CoordEntry) -> Result<(), CoordError>
         requires whole { IsTrue (self.old).whole }
         requires fits { IsCoordEntry entry }
-        requires allowed { coord_allows 62 (coord_skeletons (self.old).front) (coord_skeleton entry) ≡ true }
+        requires allowed { may_follow (self.old).named (self.old).front entry ≡ true }
         requires backed { IsBackedOn R.RecordLog D.Disk disk.old (self.old).content }
         ensures failed { MayFail result }
         ensures ok { OnOk result (self.new ≡ with_entry self.old entry) }
@@ -108,11 +108,11 @@ impl<R: RecordLog> Coordinator<R> {
         Ok(txn)
     }
 
-    /// Adds a part, from 1 to 62, to an open transaction. A part that it has already changes nothing.
+    /// Adds a part that has a name to an open transaction. A part that it has already changes nothing.
     pub fn add<D: Disk>(&mut self, disk: &mut D, txn: TxnId, part: u32) -> Result<(), CoordError>
         requires whole { IsTrue (self.old).whole }
         requires least { 1 ≤ part }
-        requires most { part ≤ 62 }
+        requires most { part ≤ (self.old).named }
         requires backed { IsBackedOn R.RecordLog D.Disk disk.old (self.old).content }
         ensures refused { MatchOption (add_refusal self.old txn part) (MayFail result) (λ refusal. result ≡ Err refusal) }
         ensures repeated { add_refusal self.old txn part ≡ None → has_part self.old txn part ≡ true → IsOk result }
@@ -176,7 +176,7 @@ impl<R: RecordLog> Coordinator<R> {
     fn close_of(&self, txn: TxnId) -> CoordEntry
         ensures entry { result ≡ closing_of_view self.now txn }
         ensures fits { IsCoordEntry result }
-        ensures allowed { is_undriven (status_in_view self.now txn) ≡ true → coord_allows 62 (coord_skeletons self.now.front) (coord_skeleton result) ≡ true }
+        ensures allowed { is_undriven (status_in_view self.now txn) ≡ true → may_follow self.now.named self.now.front result ≡ true }
     {
         let _count = self.table.count();
         let decision = self.table.decision(txn).unwrap_or(Decision::Commit);

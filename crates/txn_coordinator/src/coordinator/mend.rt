@@ -5,7 +5,7 @@ ghost use Rattle.txn_base.specs.declared.file_id.FileId.{FileId};
 ghost use Rattle.txn_base.specs.Content.{settled, looked_at, Settles};
 ghost use Rattle.txn_base.specs.Disk.{ChangesOnly};
 ghost use Rattle.txn_base.specs.Moves.{After, FaultsIn};
-ghost use Rattle.txn_coordinator.specs.Mending.{AreRecordsTo, AreReplayed, IsFirstBadRecord, IsSettledFrom, Mends, IsRefusedStep};
+ghost use Rattle.txn_coordinator.specs.Mending.{AreRecordsTo, AreReplayed, IsFirstBadRecord, IsSettledFrom, IsInStep, Mends, IsRefusedStep};
 ghost use Rattle.txn_model.specs.Coord.{CoordLawful};
 ghost use Rattle.txn_model.specs.Deadlines.{low_of};
 ghost use Rattle.txn_model.specs.Skeletons.{coord_skeletons};
@@ -73,13 +73,13 @@ impl<R: RecordLog> Coordinator<R> {
         // What was settled is what the files stood for at the call.
         ensures found { D.tells → (self.new).content.standing ≡ settled → R.stands (self.old).content.key (D.seen disk.old) (self.new).content.batches }
         ensures read { D.tells → OnOk result (AreRecordsTo (self.new).content (length (self.old).front) (length (self.new).front) (self.new).front) }
-        ensures damaged { (place : ℕ) → result ≡ Err (MendError.Damaged place) → (length (self.old).front ≤ place) × (place < length (self.old).front + (self.old).limits.step) }
+        ensures damaged { (place : ℕ) → result ≡ Err (MendError.Damaged place) → IsInStep self.old self.new place }
         ensures bad { D.tells → AreReplayed (self.old).named (self.old).content (self.old).front → (place : ℕ) → result ≡ Err (MendError.Damaged place) → IsFirstBadRecord (self.old).named (self.new).content place }
         ensures counted { OnOk result (steps.new + length (self.old).front ≡ steps.old + length (self.new).front) }
         ensures few { steps.new ≤ steps.old + (self.old).limits.step }
         ensures tied { D.tells → IsFrontOf self.old → IsFrontOf self.new }
         ensures replayed { D.tells → AreReplayed (self.old).named (self.old).content (self.old).front → AreReplayed (self.old).named (self.new).content (self.new).front }
-        ensures lawful { CoordLawful (self.old).named (coord_skeletons (self.old).front) → CoordLawful (self.old).named (coord_skeletons (self.new).front) }
+        ensures lawful { CoordLawful (self.old).named (coord_skeletons (self.new).front) }
         ensures backed { IsBackedOn R.RecordLog D.Disk disk.new (self.new).content }
         ensures images { After D.Disk (Settles R.mine R.stands (self.old).content) disk.old disk.new }
         ensures others { ChangesOnly (R.mine (self.old).content.key) (D.seen disk.old) (D.seen disk.new) }

@@ -7,7 +7,8 @@ use Rattle.txn_model.specs.Skeletons.{coord_skeleton, coord_skeletons}
 use Rattle.txn_model.specs.Coord.{coord_allows, CoordLawful}
 use Rattle.txn_coordinator.specs.Mending.{AreRecordsFrom, AreReplayed, IsFirstBadRecord}
 use Rattle.txn_table.specs.Table.{AreEntries}
-use Rattle.txn_coordinator.proofs.Replayed.{entries_next, read_more, tied_next, allowed_few, lawful_next, replayed_next, bad_here, allows_read}
+use Rattle.txn_model.proofs.Laws.Logs.{more_allowed}
+use Rattle.txn_coordinator.proofs.Replayed.{entries_next, read_more, tied_next, lawful_next, replayed_next, bad_here, allows_read}
 use Rattle.txn_coordinator.proofs.Steps.{same_then, faults_then, faults_quiet}
 use Rattle.txn_coordinator.proofs.replay.stage.Goals as goal
 
@@ -35,12 +36,12 @@ loop-place-preserved g c =
     record {
       count = omega (arith, c.loop-place.invariant.count, ap length pushed, length-append c.loop-place.staged.items (c.in_ok-entry.entry ∷ []));
       room = omega (arith, c.loop-place.invariant.room, c.push_reserved.ensures.capacity);
-      entries = subst (λ (xs : List CoordEntry). AreEntries (c.args.table.now.front ++ xs)) (sym pushed) (entries_next c.args.table.now.front c.loop-place.staged.items c.in_ok-entry.entry c.loop-place.invariant.entries c.in_ok-entry.ensures.fits (allowed_few c.args.named (coord_skeletons (c.args.table.now.front ++ c.loop-place.staged.items)) (coord_skeleton c.in_ok-entry.entry) c.requires.named allowed));
+      entries = subst (λ (xs : List CoordEntry). AreEntries (c.args.table.now.front ++ xs)) (sym pushed) (entries_next c.args.table.now.front c.loop-place.staged.items c.in_ok-entry.entry c.loop-place.invariant.entries c.in_ok-entry.ensures.fits (more_allowed c.args.named 62 (coord_skeletons (c.args.table.now.front ++ c.loop-place.staged.items)) (coord_skeleton c.in_ok-entry.entry) c.requires.named allowed));
       read = λ told. subst (λ (xs : List CoordEntry). AreRecordsFrom (g.R.RecordLog.content c.args.log.now) c.args.at xs) (sym pushed)
           (read_more (g.R.RecordLog.content c.args.log.now) c.args.at c.loop-place.place c.loop-place.staged.items c.in_ok-entry.entry c.loop-place.invariant.count (c.loop-place.invariant.read told) (c.in_ok-entry.ensures.read told));
       tied = λ told was. subst (λ (xs : List CoordEntry). c.args.table.now.front ++ xs ≡ take (c.loop-place.place + 1) (coord_entries (g.R.RecordLog.content c.args.log.now).batches)) (sym pushed)
           (tied_next (g.R.RecordLog.content c.args.log.now) c.args.table.now.front c.loop-place.staged.items c.in_ok-entry.entry c.loop-place.place lt (c.in_ok-entry.ensures.read told) (c.loop-place.invariant.tied told was));
-      lawful = λ was. subst (λ (xs : List CoordEntry). CoordLawful c.args.named (coord_skeletons (c.args.table.now.front ++ xs))) (sym pushed) (lawful_next c.args.named c.args.table.now.front c.loop-place.staged.items c.in_ok-entry.entry (c.loop-place.invariant.lawful was) allowed);
+      lawful = subst (λ (xs : List CoordEntry). CoordLawful c.args.named (coord_skeletons (c.args.table.now.front ++ xs))) (sym pushed) (lawful_next c.args.named c.args.table.now.front c.loop-place.staged.items c.in_ok-entry.entry c.loop-place.invariant.lawful allowed);
       replayed = λ told was. subst (λ (xs : List CoordEntry). AreReplayed c.args.named (g.R.RecordLog.content c.args.log.now) (c.args.table.now.front ++ xs)) (sym pushed)
           (replayed_next c.args.named (g.R.RecordLog.content c.args.log.now) c.args.table.now.front c.loop-place.staged.items c.loop-place.place lt count (c.loop-place.invariant.replayed told was) c.in_ok-entry.entry (c.in_ok-entry.ensures.read told) allowed);
       counted = omega (arith, c.loop-place.invariant.counted, c.read_entry.ensures.counted);

@@ -15,7 +15,7 @@ invariant-loop-place g l = record {
   entries : AreEntries (l.table.front ++ l.staged.items);
   read : g.D.Disk.tells → AreRecordsFrom (g.R.RecordLog.content l.log) l.at l.staged.items;
   tied : g.D.Disk.tells → l.table.front ≡ take l.at (coord_entries (g.R.RecordLog.content l.log).batches) → l.table.front ++ l.staged.items ≡ take l.place (coord_entries (g.R.RecordLog.content l.log).batches);
-  lawful : CoordLawful l.named (coord_skeletons l.table.front) → CoordLawful l.named (coord_skeletons (l.table.front ++ l.staged.items));
+  lawful : CoordLawful l.named (coord_skeletons (l.table.front ++ l.staged.items));
   replayed : g.D.Disk.tells → AreReplayed l.named (g.R.RecordLog.content l.log) l.table.front → AreReplayed l.named (g.R.RecordLog.content l.log) (l.table.front ++ l.staged.items);
   counted : l.steps + l.at ≡ l.initial.steps + l.place;
   seen : g.D.Disk.seen l.disk ≡ g.D.Disk.seen l.initial.disk;

@@ -29,9 +29,6 @@ use Rattle.txn_engine.proofs.engine.Engine.add.Goals as goal
 fits32 : (p n : ℕ) → p ≤ n → n ≤ 62 → Fits w32 p
 fits32 p n h k = omega (arith, h, k)
 
-below62 : (p n : ℕ) → p ≤ n → n ≤ 62 → p ≤ 62
-below62 p n h k = omega (arith, h, k)
-
 known_in : (v : EngineView) (names : List (List ℕ)) (part : List ℕ) (found : Option ℕ) → names ≡ v.names → found ≡ part_of names part → part_of v.names part ≡ found
 known_in v names part found e h = ap (λ (ns : List (List ℕ)). part_of ns part) (sym e) ∙ sym h
 
@@ -49,7 +46,8 @@ pub overflow_cast-number : goal.overflow_cast-number
 overflow_cast-number g c = fits32 c.in-Some.number (length c.self.inside.names.items) (subst (λ (ns : List (List ℕ)). c.in-Some.number ≤ length ns) c.deref.ensures.value c.in-Some.ensures.within.1) (few_names c.self.inside.names.items c.self.invariant.names)
 
 pub add-added-requires-clause-most : goal.add-added-requires-clause-most
-add-added-requires-clause-most g c = below62 c.in-Some.number (length c.self.inside.names.items) (subst (λ (ns : List (List ℕ)). c.in-Some.number ≤ length ns) c.deref.ensures.value c.in-Some.ensures.within.1) (few_names c.self.inside.names.items c.self.invariant.names)
+add-added-requires-clause-most g c =
+    subst (λ (n : ℕ). c.in-Some.number ≤ n) (sym c.self.invariant.coord.named_is) (subst (λ (ns : List (List ℕ)). c.in-Some.number ≤ length ns) c.deref.ensures.value c.in-Some.ensures.within.1)
 
 pub invariant_of-self : goal.invariant_of-self
 invariant_of-self g c =

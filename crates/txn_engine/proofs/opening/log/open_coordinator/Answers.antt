@@ -12,7 +12,7 @@ pub loop-file-preserved : goal.loop-file-preserved
 loop-file-preserved g c =
     let was = c.loop-file.invariant in
     let now = c.in_default-mend_step.ensures in
-    let lawful = subst (λ (k : ℕ). CoordLawful k (coord_skeletons c.loop-file.coordinator.front) → CoordLawful k (coord_skeletons c.mend_step.new.self.front)) was.log.named_is now.lawful was.log.lawful in
+    let lawful = subst (λ (k : ℕ). CoordLawful k (coord_skeletons c.mend_step.new.self.front)) was.log.named_is now.lawful in
     record {
       log = opening_step c.args.limits.now c.args.named c.loop-file.coordinator c.mend_step.new.self was.log (sym c.is_whole.ensures.whole ∙ c.loop-file-test.true) now.ok lawful;
       backed = now.backed;
