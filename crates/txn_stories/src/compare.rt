@@ -56,14 +56,19 @@ pub fn same_lines(alloc: Global, want: &[u8], came: &[u8]) -> Result<(), Wrong>
     }
     let wants = lines_in(alloc, want)?;
     let cames = lines_in(alloc, came)?;
+    Err(first_difference(alloc, &wants, &cames)?)
+}
+
+/// The first line that is another.
+fn first_difference(alloc: Global, wants: &[&[u8]], cames: &[&[u8]]) -> Result<Wrong, AllocError> {
     for i in 0..wants.len().max(cames.len()) {
         let want = wants.get(i).copied().unwrap_or(&[]);
         let came = cames.get(i).copied().unwrap_or(&[]);
         if want != came {
-            return Err(other_line(alloc, i.saturating_add(1), want, came)?);
+            return other_line(alloc, i.saturating_add(1), want, came);
         }
     }
-    Err(Wrong::Line("the replies differ"))
+    Ok(Wrong::Line("the replies differ"))
 }
 
 /// Another line came: what stands around the first byte that is another.

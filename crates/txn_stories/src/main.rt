@@ -106,15 +106,22 @@ fn report(rt: HostRuntime, path: &str, told: &Told) -> io::Result<bool> {
             }
             return Ok(true);
         }
-        Err(Wrong::NoMemory) => println!(rt; "FAILED {name}: no memory")?,
-        Err(Wrong::Line(why)) => println!(rt; "FAILED {name}: {why}")?,
-        Err(Wrong::Came { what, want, came }) => {
-            println!(rt; "FAILED {name}: {what}\n  want {want}\n  came {came}")?
-        }
+        Err(wrong) => print_failed(rt, name, wrong)?,
     }
     let line = told.at;
     println!(rt; "  up to line {line} of {path}")?;
     Ok(false)
+}
+
+/// Prints why a story failed.
+fn print_failed(rt: HostRuntime, name: &str, wrong: &Wrong) -> io::Result<()> {
+    match wrong {
+        Wrong::NoMemory => println!(rt; "FAILED {name}: no memory"),
+        Wrong::Line(why) => println!(rt; "FAILED {name}: {why}"),
+        Wrong::Came { what, want, came } => {
+            println!(rt; "FAILED {name}: {what}\n  want {want}\n  came {came}")
+        }
+    }
 }
 
 /// Prints where a story that says something wrong is found to be wrong. Whether it is found so by what came.
@@ -125,12 +132,8 @@ fn report_wrong(rt: HostRuntime, told: &Told) -> io::Result<bool> {
             println!(rt; "wrong as it has to be: {name}: {what}\n  want {want}\n  came {came}")?;
             Ok(true)
         }
-        Err(Wrong::Line(why)) => {
-            println!(rt; "FAILED {name}: {why}")?;
-            Ok(false)
-        }
-        Err(Wrong::NoMemory) => {
-            println!(rt; "FAILED {name}: no memory")?;
+        Err(wrong) => {
+            print_failed(rt, name, wrong)?;
             Ok(false)
         }
         Ok(()) => {

@@ -54,10 +54,24 @@ impl Page {
 
     /// The lines so far belong to a run that put this and ended so.
     pub fn fill(&mut self, put: &[u8], ending: &str, why: &str) -> Result<(), Wrong> {
+        let replies = self.shown_replies(put)?;
+        self.put_held(&replies, ending, why)?;
+        self.held.clear();
+        self.said.clear();
+        Ok(())
+    }
+
+    /// The replies that were put, as the page shows them.
+    fn shown_replies(&self, put: &[u8]) -> Result<Vec<String>, Wrong> {
         let mut replies = Vec::new(self.alloc);
         for (i, reply) in lines_in(self.alloc, put)?.iter().enumerate() {
             replies.push(shown(self.alloc, self.said.get(i), reply)?)?;
         }
+        Ok(replies)
+    }
+
+    /// Puts the lines of the run, each reply behind the line that asks for it, and the others and the end behind the last.
+    fn put_held(&mut self, replies: &[String], ending: &str, why: &str) -> Result<(), AllocError> {
         let last = last_asked(&self.held);
         let mut told = 0usize;
         for (i, line) in self.held.iter().enumerate() {
@@ -74,8 +88,6 @@ impl Page {
                 told = told.saturating_add(1);
             }
         }
-        self.held.clear();
-        self.said.clear();
         Ok(())
     }
 }

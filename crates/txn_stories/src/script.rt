@@ -70,12 +70,17 @@ impl Script {
             &mut sink,
             &mut clock,
         );
-        Ok(Came {
-            ending: ending_of(alloc, &status)?,
-            why: why_of(alloc, &status)?,
-            put: sink.bytes().to_vec(alloc)?,
-        })
+        Ok(came_of(alloc, &status, sink.bytes())?)
     }
+}
+
+/// What came of a run that ended so, and put these bytes.
+fn came_of(alloc: Global, status: &RunStatus, put: &[u8]) -> Result<Came, AllocError> {
+    Ok(Came {
+        ending: ending_of(alloc, status)?,
+        why: why_of(alloc, status)?,
+        put: put.to_vec(alloc)?,
+    })
 }
 
 /// These lines, one behind the other.

@@ -79,23 +79,26 @@ impl Story {
     /// Tells it for one of its cases.
     pub fn tell(&self, i: usize, is_shown: bool) -> Result<Told, AllocError> {
         let case = self.cases.get(i).map_or("", |case| case.as_str());
-        let mut told = Told {
-            head: filled(self.alloc, self.head.as_str(), case)?,
-            at: self.first,
-            teller: Teller::new(self.alloc, is_shown)?,
-            end: Ok(()),
-        };
+        let head = filled(self.alloc, self.head.as_str(), case)?;
+        let mut teller = Teller::new(self.alloc, is_shown)?;
+        let mut at = self.first;
+        let end = self.tell_lines(case, &mut at, &mut teller);
+        Ok(Told {
+            head,
+            at,
+            teller,
+            end,
+        })
+    }
+
+    /// Tells its lines for a case, and counts them.
+    fn tell_lines(&self, case: &str, at: &mut usize, teller: &mut Teller) -> Result<(), Wrong> {
         for line in &self.lines {
-            if told.end.is_ok() {
-                told.at = told.at.saturating_add(1);
-                let text = filled(self.alloc, line.as_str(), case)?;
-                told.end = told.teller.tell(text.as_str());
-            }
+            *at = at.saturating_add(1);
+            let text = filled(self.alloc, line.as_str(), case)?;
+            teller.tell(text.as_str())?;
         }
-        if told.end.is_ok() {
-            told.end = told.teller.end();
-        }
-        Ok(told)
+        teller.end()
     }
 }
 

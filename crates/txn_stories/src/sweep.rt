@@ -32,6 +32,14 @@ struct Allowed {
     with: Vec<u8>,
 }
 
+/// The line of a run at which a call failed, counted from 0: whether the run goes on behind it, and whether it put a reply.
+#[derive(Clone, Copy)]
+struct Failure {
+    at: usize,
+    goes_on: bool,
+    has_replies: bool,
+}
+
 const OPS: [Op; 5] = [Op::Size, Op::Read, Op::WriteAt, Op::Resize, Op::Sync];
 
 /// Each call of the run fails once, and the machine stops behind it: what was answered stands. How many calls there were.
@@ -114,23 +122,45 @@ fn fails_once(
     }
     let allowed = allowed_after(alloc, past, whole, look, &came)?;
     for choice in &CHOICES {
-        let mut left = disk.crash(*choice)?;
-        let seen = look.run(alloc, &past.limits, &look.lines, &mut left)?;
+        let seen = seen_behind(alloc, past, look, &disk, *choice)?;
         if seen.ending.as_str() != "0" || !allows(&allowed, also, &seen.put) {
-            let file = fault.file.part;
-            let op = fault.op;
-            let nth = fault.nth;
-            let ending = seen.ending.as_str();
-            return Err(Wrong::Came {
-                what: format!(in alloc;
-                    "fault part {file} {op:?} {nth}, crash {choice:?}, status {ending}"
-                )?,
-                want: told(alloc, &allowed.without)?,
-                came: told(alloc, &seen.put)?,
-            });
+            return Err(seen_otherwise(alloc, fault, *choice, &allowed, &seen)?);
         }
     }
     Ok(true)
+}
+
+/// What a look puts behind a crash.
+fn seen_behind(
+    alloc: Global,
+    past: &Past,
+    look: &Script,
+    disk: &MemDisk,
+    choice: Choice,
+) -> Result<Came, Wrong> {
+    let mut left = disk.crash(choice)?;
+    look.run(alloc, &past.limits, &look.lines, &mut left)
+}
+
+/// A look put what it may not put.
+fn seen_otherwise(
+    alloc: Global,
+    fault: FaultAt,
+    choice: Choice,
+    allowed: &Allowed,
+    seen: &Came,
+) -> Result<Wrong, AllocError> {
+    let file = fault.file.part;
+    let op = fault.op;
+    let nth = fault.nth;
+    let ending = seen.ending.as_str();
+    Ok(Wrong::Came {
+        what: format!(in alloc;
+            "fault part {file} {op:?} {nth}, crash {choice:?}, status {ending}"
+        )?,
+        want: told(alloc, &allowed.without)?,
+        came: told(alloc, &seen.put)?,
+    })
 }
 
 fn allows(allowed: &Allowed, also: &[Also], put: &Vec<u8>) -> bool {
@@ -149,6 +179,18 @@ fn allowed_after(
     look: &Script,
     came: &Came,
 ) -> Result<Allowed, Wrong> {
+    let Some(failure) = failure_in(alloc, whole, came)? else {
+        return Err(told_otherwise(alloc, whole, came)?);
+    };
+    Ok(Allowed {
+        line: failure.at.saturating_add(1),
+        without: seen_with(alloc, past, look, failure, false)?,
+        with: seen_with(alloc, past, look, failure, failure.has_replies)?,
+    })
+}
+
+/// The line at which a call failed, where the run tells of it as it has to.
+fn failure_in(alloc: Global, whole: &Came, came: &Came) -> Result<Option<Failure>, AllocError> {
     let replies = lines_in(alloc, &came.put)?;
     let wholes = lines_in(alloc, &whole.put)?;
     let at = first_other(&replies, &wholes);
@@ -160,21 +202,39 @@ fn allowed_after(
         came.ending.as_str() == "5 disk fault"
             && (replies.is_empty() || (replies.len() == behind && is_fault(replies.get(at))))
     };
-    if !is_told {
-        return Err(Wrong::Came {
-            what: String::from_str(alloc, "a call failed")?,
-            want: told(alloc, &whole.put)?,
-            came: told(alloc, &came.put)?,
-        });
-    }
-    let lines = &past.script.lines;
-    let without = picked(alloc, lines, at, goes_on, false)?;
-    let with = picked(alloc, lines, at, goes_on, !replies.is_empty())?;
-    Ok(Allowed {
-        line: at.saturating_add(1),
-        without: seen_after(alloc, past, look, &without)?,
-        with: seen_after(alloc, past, look, &with)?,
+    let has_replies = !replies.is_empty();
+    Ok(is_told.then_some(Failure {
+        at,
+        goes_on,
+        has_replies,
+    }))
+}
+
+/// A run in which a call failed put what it may not put.
+fn told_otherwise(alloc: Global, whole: &Came, came: &Came) -> Result<Wrong, AllocError> {
+    Ok(Wrong::Came {
+        what: String::from_str(alloc, "a call failed")?,
+        want: told(alloc, &whole.put)?,
+        came: told(alloc, &came.put)?,
     })
+}
+
+/// What a look puts behind the lines that were done, where the failed one was done or wasn't.
+fn seen_with(
+    alloc: Global,
+    past: &Past,
+    look: &Script,
+    failure: Failure,
+    has_it: bool,
+) -> Result<Vec<u8>, Wrong> {
+    let lines = picked(
+        alloc,
+        &past.script.lines,
+        failure.at,
+        failure.goes_on,
+        has_it,
+    )?;
+    seen_after(alloc, past, look, &lines)
 }
 
 /// A reply that tells of a fault.

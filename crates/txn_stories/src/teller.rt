@@ -97,11 +97,7 @@ impl Teller {
             }
             "also" => {
                 self.show(line)?;
-                self.also.push(Also {
-                    line: number(rest)? as usize,
-                    put: Vec::new(self.alloc),
-                })?;
-                Ok(())
+                self.allow(number(rest)? as usize)
             }
             _ => {
                 self.finish()?;
@@ -109,6 +105,13 @@ impl Teller {
                 self.direct(word, rest)
             }
         }
+    }
+
+    /// What follows may be put too, where a call failed at this line.
+    fn allow(&mut self, line: usize) -> Result<(), Wrong> {
+        let put = Vec::new(self.alloc);
+        self.also.push(Also { line, put })?;
+        Ok(())
     }
 
     /// What is said of a run that is asked for.
@@ -153,18 +156,28 @@ impl Teller {
             "see" => self.see(rest),
             "fault" => self.world.fail(fault_of(rest)?),
             "trap" => self.world.trap(fault_of(rest)?),
-            "clock" => {
-                self.script.moments = numbers_of(self.alloc, rest)?;
-                Ok(())
-            }
+            "clock" => self.set_clock(rest),
             "source" => self.set_source(rest),
             "sink" => self.set_sink(rest),
             "run" => self.begin(rest),
             "each" if rest == "fault" => self.look(),
-            "crash" => self.world.crash(&choices_of(self.alloc, rest)?),
-            "or" => self.world.crash_again(&choices_of(self.alloc, rest)?),
+            "crash" => self.crash(rest),
+            "or" => self.crash_again(rest),
             _ => Err(Wrong::Line("no such word")),
         }
+    }
+
+    fn set_clock(&mut self, rest: &str) -> Result<(), Wrong> {
+        self.script.moments = numbers_of(self.alloc, rest)?;
+        Ok(())
+    }
+
+    fn crash(&mut self, rest: &str) -> Result<(), Wrong> {
+        self.world.crash(&choices_of(self.alloc, rest)?)
+    }
+
+    fn crash_again(&mut self, rest: &str) -> Result<(), Wrong> {
+        self.world.crash_again(&choices_of(self.alloc, rest)?)
     }
 
     fn lower_limits(&mut self, rest: &str) -> Result<(), Wrong> {
@@ -224,12 +237,9 @@ impl Teller {
     /// A run with these words is asked for.
     fn begin(&mut self, rest: &str) -> Result<(), Wrong> {
         for word in words_of(self.alloc, rest)? {
-            let mut bytes = Vec::new(self.alloc);
-            put_text(self.alloc, word.as_str(), &mut bytes)?;
-            let Ok(text) = str::from_utf8(&bytes) else {
-                return Err(Wrong::Line("a word is no text"));
-            };
-            self.script.words.push(Text::from_str(self.alloc, text)?)?;
+            self.script
+                .words
+                .push(told_word(self.alloc, word.as_str())?)?;
         }
         self.asked = Asked::Run;
         self.ending = String::from_str(self.alloc, "0")?;
@@ -276,27 +286,40 @@ impl Teller {
 
     fn finish_run(&mut self) -> Result<(), Wrong> {
         self.asked = Asked::Nothing;
-        let script = mem::replace(&mut self.script, Script::new(self.alloc));
-        let want = mem::replace(&mut self.want, Vec::new(self.alloc));
-        let why = mem::replace(&mut self.why, String::new(self.alloc));
         let before = self.world.copy()?;
+        let script = mem::replace(&mut self.script, Script::new(self.alloc));
         self.world.begin();
-        for i in 0..self.world.disks.len() {
-            let came = self.run_on(i, &script)?;
-            match &mut self.page {
-                Some(page) if i == 0 => {
-                    page.fill(&came.put, came.ending.as_str(), came.why.as_str())?
-                }
-                Some(_) => {}
-                None => self.compare(&want, why.as_str(), &came)?,
-            }
-        }
+        self.run_on_each(&script)?;
+        self.want.clear();
+        self.why.clear();
         self.past = Some(Past {
             script,
             limits: self.limits,
             before,
         });
         Ok(())
+    }
+
+    /// Runs it on each of the disks, and compares, or shows what came on the first.
+    fn run_on_each(&mut self, script: &Script) -> Result<(), Wrong> {
+        for i in 0..self.world.disks.len() {
+            let came = self.run_on(i, script)?;
+            self.see_run(i, &came)?;
+        }
+        Ok(())
+    }
+
+    fn see_run(&mut self, i: usize, came: &Came) -> Result<(), Wrong> {
+        match &mut self.page {
+            Some(page) => {
+                if i == 0 {
+                    page.fill(&came.put, came.ending.as_str(), came.why.as_str())
+                } else {
+                    Ok(())
+                }
+            }
+            None => self.compare(came),
+        }
     }
 
     /// Runs it on one of the disks.
@@ -334,11 +357,16 @@ impl Teller {
         Ok(())
     }
 
-    fn compare(&self, want: &[u8], why: &str, came: &Came) -> Result<(), Wrong> {
-        same_lines(self.alloc, want, &came.put)?;
+    fn compare(&self, came: &Came) -> Result<(), Wrong> {
+        same_lines(self.alloc, &self.want, &came.put)?;
         let ending = self.ending.as_str();
         same_text(self.alloc, "the status", ending, came.ending.as_str())?;
-        same_text(self.alloc, "the cause", why, came.why.as_str())
+        same_text(
+            self.alloc,
+            "the cause",
+            self.why.as_str(),
+            came.why.as_str(),
+        )
     }
 }
 
@@ -359,6 +387,16 @@ fn show_file(
         }
     }
     Ok(())
+}
+
+/// The text that a word stands for.
+fn told_word(alloc: Global, word: &str) -> Result<Text, Wrong> {
+    let mut bytes = Vec::new(alloc);
+    put_text(alloc, word, &mut bytes)?;
+    match str::from_utf8(&bytes) {
+        Ok(text) => Ok(Text::from_str(alloc, text)?),
+        Err(_) => Err(Wrong::Line("a word is no text")),
+    }
 }
 
 /// Puts the bytes that a text stands for, and the end of its line.
