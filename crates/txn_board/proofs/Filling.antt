@@ -9,7 +9,8 @@ use Rattle.std.proofs.lemmas.Nat.Bits.{bit_at-zero}
 use native.Mathlib.Decide.{ℕ_discrete, dec_lt}
 use Rattle.txn_base.specs.declared.core_entry.CoreEntry.{CoreEntry}
 use Rattle.txn_board.specs.declared.words.Word.TheVariants.{Done}
-use Rattle.txn_board.specs.Words.{word_at, as_bit, is_bit_set, WordsSay, mark_of, with_mark, with_more, open_from, has_closing}
+use Rattle.txn_board.specs.Words.{word_at, as_bit, is_bit_set, WordsSay, mark_of, with_mark, with_more, has_closing}
+use Rattle.txn_board.proofs.Watermark.{open_from}
 use Rattle.txn_board.specs.Rows.{list_in}
 use Rattle.txn_board.proofs.Marks.{noted, offset_small}
 

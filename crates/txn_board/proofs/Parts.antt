@@ -6,7 +6,7 @@ use Rattle.txn_core.specs.Steps.{start_row, settle_row}
 use Rattle.txn_board.specs.declared.view.View.{View}
 use Rattle.txn_board.specs.Words.{window, IsIn, is_in}
 use Rattle.txn_board.specs.Rows.{low_in, with_row_by, IsOfPart, settle_view, loaded}
-use Rattle.txn_board.specs.Calls.{start_where, StartsInside, StartsMarker, StartsClosing}
+use Rattle.txn_board.specs.Calls.{Turns, start_where, StartsInside, StartsMarker, StartsClosing}
 use Rattle.txn_board.proofs.Marks.{in_of}
 
 -- where entries start, where an entry settles
@@ -20,8 +20,8 @@ part_starts part k n es v w e h = subst (IsOfPart part) (sym e) (go es)
 pub part_settles : (part : ℕ) (v w : View) → w ≡ settle_view v → IsOfPart part v → IsOfPart part w
 part_settles part v w e h = subst (IsOfPart part) (sym e) (settle_row h.0, record { one = ap (with_row_by settle_row) h.1.one })
 
-pub part_settles_own : (part : ℕ) (v w : View) → (n : ℕ) × (w ≡ loaded 0 n (settle_view v)) → IsOfPart part v → IsOfPart part w
-part_settles_own part v w e h = subst (IsOfPart part) (sym e.1) (settle_row h.0, record { one = ap (with_row_by settle_row) h.1.one })
+pub part_settles_own : (part : ℕ) (made : Type 0) (lists : List (List CoreEntry)) (v w : View) → Turns made lists (settle_view v) v w → IsOfPart part v → IsOfPart part w
+part_settles_own part made lists v w e h = subst (IsOfPart part) (sym e.view) (settle_row h.0, record { one = ap (with_row_by settle_row) h.1.one })
 
 -- in the window or not
 either : (first count x : ℕ) (P : Type 0) → (IsIn first count x → P) → (is_in first count x ≡ false → P) → P

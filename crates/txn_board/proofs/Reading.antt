@@ -12,9 +12,9 @@ use Rattle.txn_board.specs.declared.view.Load.{Load}
 use Rattle.txn_board.specs.declared.view.View.{View}
 use Rattle.txn_board.specs.declared.words.Word.{Word}
 use Rattle.txn_board.specs.declared.words.Word.TheVariants.{Registered, Decided, Done}
-use Rattle.txn_board.specs.Words.{window, is_in, offset, word_at, as_bit, is_bit_set, tells}
+use Rattle.txn_board.specs.Words.{window, IsIn, is_in, offset, word_at, as_bit, is_bit_set, tells}
 use Rattle.txn_board.specs.Rows.{list_in, low_in, loaded, with_loads}
-use Rattle.txn_board.specs.Rule.{AreFound}
+use Rattle.txn_board.specs.Rule.{EachInTurn, Found, AreFound, ShowsOn, ShowOn}
 use Rattle.txn_board.specs.Seen.{place_of, last_value, bit_seen, status_by, words_of, word_places, looked, Looked, Reads, ReadsStatus}
 use Rattle.txn_board.proofs.Marks.{in_by, in_of}
 
@@ -28,20 +28,27 @@ places_append (x ∷ xs) ys = ap (λ (l : List ℕ). x.place ∷ l) (places_appe
 
 -- ---- Loads that showed what stood.
 
-none_more : (v : View) → with_loads [] v ≡ v
+pub none_more : (v : View) → with_loads [] v ≡ v
 none_more v = ap (λ ms. record { rows = v.rows; loads = ms }) (append-nil v.loads)
 
-pub found_append : (lists : List (List CoreEntry)) (v : View) (xs ys : List Load) → AreFound lists v xs → AreFound lists (with_loads xs v) ys → AreFound lists v (xs ++ ys)
-found_append lists v [] ys a b = subst (λ u. AreFound lists u ys) (none_more v) b
-found_append lists v (x ∷ xs) ys a b =
+pub turn_append : (fact : ℕ → ℕ → View → Type 0) (v : View) (xs ys : List Load) → EachInTurn fact v xs → EachInTurn fact (with_loads xs v) ys → EachInTurn fact v (xs ++ ys)
+turn_append fact v [] ys a b = subst (λ u. EachInTurn fact u ys) (none_more v) b
+turn_append fact v (x ∷ xs) ys a b =
     let onto : with_loads (x ∷ xs) v ≡ with_loads xs (loaded x.place x.value v) = ap (λ ms. record { rows = v.rows; loads = ms }) (sym (append_assoc v.loads (x ∷ []) xs)) in
-    (a.0, found_append lists (loaded x.place x.value v) xs ys a.1 (subst (λ u. AreFound lists u ys) onto b))
+    (a.0, turn_append fact (loaded x.place x.value v) xs ys a.1 (subst (λ u. EachInTurn fact u ys) onto b))
 
 pub found_one : (made : Type 0) (lists : List (List CoreEntry)) (x : ℕ) (w : Word) (n : ℕ) (v : View) → Looked made lists x w n v → made → AreFound lists v (looked lists x w n)
 found_one made lists x w n v k m = go (is_in (low_in lists) window x) refl
   where
     go : (b : Bool) → is_in (low_in lists) window x ≡ b → AreFound lists v (if b then record { place = word_at (low_in lists) x w; value = n } ∷ [] else [])
     go true i = (k.found m (in_of (low_in lists) window x i), tt)
+    go false i = tt
+
+pub shows_one : (made : Type 0) (lists : List (List CoreEntry)) (x : ℕ) (w : Word) (n : ℕ) (v : View) → Looked made lists x w n v → ShowOn v (looked lists x w n)
+shows_one made lists x w n v k = go (is_in (low_in lists) window x) refl
+  where
+    go : (b : Bool) → is_in (low_in lists) window x ≡ b → ShowOn v (if b then record { place = word_at (low_in lists) x w; value = n } ∷ [] else [])
+    go true i = (k.grows (in_of (low_in lists) window x i), tt)
     go false i = tt
 
 module _ (made : Type 0) (lists : List (List CoreEntry)) (x : ℕ) where
@@ -68,6 +75,13 @@ module _ (made : Type 0) (lists : List (List CoreEntry)) (x : ℕ) where
       go : (t : Bool) → (if t then word_at (low_in lists) x w ∷ [] else []) ++ (if t then map (word_at (low_in lists) x) ws else []) ≡ (if t then word_at (low_in lists) x w ∷ map (word_at (low_in lists) x) ws else [])
       go true = refl
       go false = refl
+
+  -- a load in the window
+  pub looked_at : (w : Word) (n : ℕ) (v v1 : View) → IsIn (low_in lists) window x → v1 ≡ loaded (word_at (low_in lists) x w) n v → v1 ≡ with_loads (looked lists x w n) v
+  looked_at w n v v1 inside e = e ∙ sym (ap (λ t. with_loads (if t then record { place = word_at (low_in lists) x w; value = n } ∷ [] else []) v) (in_by (low_in lists) window x inside))
+
+  pub looked_in : (w : Word) (n : ℕ) (v : View) → IsIn (low_in lists) window x → (made → Found lists (word_at (low_in lists) x w) n v) → ShowsOn (word_at (low_in lists) x w) n v.loads → Looked made lists x w n v
+  looked_in w n v inside found on = record { below = λ lt. absurd (omega (arith, lt, inside.least)); past = λ le. absurd (omega (arith, le, inside.most)); found = λ m i. found m; grows = λ i. on }
 
   -- a word that was looked at, whose last load is this
   bit_of : (loads : List Load) (w : Word) (n p : ℕ) (u : View) → p < 64 → Looked made lists x w n u → (is_in (low_in lists) window x ≡ true → last_value 0 loads (word_at (low_in lists) x w) ≡ n) → (is_in (low_in lists) window x ≡ false → loads ≡ [])
@@ -103,9 +117,9 @@ module _ (made : Type 0) (lists : List (List CoreEntry)) (x : ℕ) where
   one_bit w n p u small k = bit_of (looked lists x w n) w n p u small k (last_hit 0 w n) (no_looked w n)
 
   pub one_reads : (w : Word) (n : ℕ) (v v' : View) → Looked made lists x w n v → v' ≡ with_loads (looked lists x w n) v → Reads made lists x (w ∷ []) (looked lists x w n) v v'
-  one_reads w n v v' k e = record { view = e; places = places_one w n; found = found_one made lists x w n v k }
+  one_reads w n v v' k e = record { view = e; places = places_one w n; found = found_one made lists x w n v k; grows = shows_one made lists x w n v k }
 
-  abbrev two : ℕ → ℕ → List Load
+  abbrev pub two : ℕ → ℕ → List Load
   two a b = looked lists x Registered a ++ looked lists x Decided b
 
   abbrev three : ℕ → ℕ → ℕ → List Load
@@ -157,13 +171,17 @@ module _ (made : Type 0) (lists : List (List CoreEntry)) (x : ℕ) where
   abbrev pub IsStatus : View → View → Option Status → Type 0
   IsStatus v v' s = (loads : List Load) × ReadsStatus made lists x s loads v v'
 
-  two_view : (a b : ℕ) (v v1 v2 : View) → v1 ≡ with_loads (looked lists x Registered a) v → v2 ≡ with_loads (looked lists x Decided b) v1 → v2 ≡ with_loads (two a b) v
+  pub two_view : (a b : ℕ) (v v1 v2 : View) → v1 ≡ with_loads (looked lists x Registered a) v → v2 ≡ with_loads (looked lists x Decided b) v1 → v2 ≡ with_loads (two a b) v
   two_view a b v v1 v2 e f =
       f ∙ (ap (with_loads (looked lists x Decided b)) e ∙ ap (λ ms. record { rows = v.rows; loads = ms }) (append_assoc v.loads (looked lists x Registered a) (looked lists x Decided b)))
 
   two_found : (a b : ℕ) (v v1 : View) → Looked made lists x Registered a v → Looked made lists x Decided b v1 → v1 ≡ with_loads (looked lists x Registered a) v → made → AreFound lists v (two a b)
   two_found a b v v1 k l e m =
-      found_append lists v (looked lists x Registered a) (looked lists x Decided b) (found_one made lists x Registered a v k m) (subst (λ u. AreFound lists u (looked lists x Decided b)) e (found_one made lists x Decided b v1 l m))
+      turn_append (Found lists) v (looked lists x Registered a) (looked lists x Decided b) (found_one made lists x Registered a v k m) (subst (λ u. AreFound lists u (looked lists x Decided b)) e (found_one made lists x Decided b v1 l m))
+
+  two_shows : (a b : ℕ) (v v1 : View) → Looked made lists x Registered a v → Looked made lists x Decided b v1 → v1 ≡ with_loads (looked lists x Registered a) v → ShowOn v (two a b)
+  two_shows a b v v1 k l e =
+      turn_append (λ place value u. ShowsOn place value u.loads) v (looked lists x Registered a) (looked lists x Decided b) (shows_one made lists x Registered a v k) (subst (λ u. ShowOn u (looked lists x Decided b)) e (shows_one made lists x Decided b v1 l))
 
   pub not_begun : (a : ℕ) (v v1 : View) → Looked made lists x Registered a v → v1 ≡ with_loads (looked lists x Registered a) v → is_bit_set a 0 ≡ false → IsStatus v v1 None
   not_begun a v v1 k e h =
@@ -181,7 +199,7 @@ module _ (made : Type 0) (lists : List (List CoreEntry)) (x : ℕ) where
       let ls = two a b in (
         ls,
         record {
-          reads = record { view = two_view a b v v1 v2 e f; places = two_places a b; found = two_found a b v v1 k l e };
+          reads = record { view = two_view a b v v1 v2 e f; places = two_places a b; found = two_found a b v v1 k l e; grows = two_shows a b v v1 k l e };
           is = sym (ap (λ t. status_by t (bit_seen lists ls x Decided 0) (bit_seen lists ls x Decided 1) (bit_seen lists ls x Done 0)) (two_registered a b 0 v (omega arith) k ∙ h)
               ∙ (ap (λ t. status_by true t (bit_seen lists ls x Decided 1) (bit_seen lists ls x Done 0)) (two_decided a b 0 v1 (omega arith) l ∙ c) ∙ ap (λ t. status_by true false t (bit_seen lists ls x Done 0)) (two_decided a b 1 v1 (omega arith) l ∙ d)));
         },
@@ -204,7 +222,8 @@ module _ (made : Type 0) (lists : List (List CoreEntry)) (x : ℕ) where
           reads = record {
             view = g ∙ (ap (with_loads (looked lists x Done c)) front ∙ ap (λ ms. record { rows = v.rows; loads = ms }) (append_assoc v.loads (two a b) (looked lists x Done c)));
             places = three_places a b c ∙ ap (word_places lists x) (sym (decided_words (is_bit_set b 0) (is_bit_set b 1) (is_bit_set c 0) d));
-            found = λ q. found_append lists v (two a b) (looked lists x Done c) (two_found a b v v1 k l e q) (subst (λ u. AreFound lists u (looked lists x Done c)) front (found_one made lists x Done c v2 m q));
+            found = λ q. turn_append (Found lists) v (two a b) (looked lists x Done c) (two_found a b v v1 k l e q) (subst (λ u. AreFound lists u (looked lists x Done c)) front (found_one made lists x Done c v2 m q));
+            grows = turn_append (λ place value u. ShowsOn place value u.loads) v (two a b) (looked lists x Done c) (two_shows a b v v1 k l e) (subst (λ u. ShowOn u (looked lists x Done c)) front (shows_one made lists x Done c v2 m));
           };
           is = sym (ap (λ t. status_by t (bit_seen lists ls x Decided 0) (bit_seen lists ls x Decided 1) (bit_seen lists ls x Done 0))
               (three_old a b c 0 Registered a v (λ q. omega (arith, q)) (omega arith) k

@@ -23,7 +23,7 @@ use Rattle.txn_board.specs.declared.view.SeatRow.{SeatRow}
 use Rattle.txn_board.specs.declared.view.View.{View}
 use Rattle.txn_board.specs.Words.{window, WordsSay, entries_of}
 use Rattle.txn_board.specs.Rows.{parts_in, list_in, low_in, AreSeatRows, NoneOf, AreApart, HasSeatRow, AreFrom, rows_from, opening_view, rest_rows, first_rows, rest_view, dealt_view, joined_view, spent_view, kept_rows}
-use Rattle.txn_board.specs.Rule.{LoadsHold, HasSeat, CanOpenBoard, Holds}
+use Rattle.txn_board.specs.Rule.{LoadsHold, KeepLoads, HasSeat, CanOpenBoard, Holds}
 use Rattle.txn_board.proofs.Steps.{settled_at, row_at, kept, there_less, seat_set}
 
 -- ---- Opening.
@@ -70,6 +70,9 @@ opens lists words may say =
       loads = one_view (λ _ u. LoadsHold words u.loads) (opening_view lists) tt;
     }
 
+pub opening_keeps : (lists : List (List CoreEntry)) (words : List ℕ) → KeepLoads (opening words [] (opening_view lists))
+opening_keeps lists words = one_view (λ _ u. LoadsHold words u.loads) (opening_view lists) tt
+
 pub from_opening : (p : ℕ) (ls : List (List CoreEntry)) → AreFrom p (rows_from p ls)
 from_opening p [] = tt
 from_opening p (l ∷ ls) = (refl, from_opening (suc p) ls)
@@ -104,6 +107,21 @@ none_there : (c : CoreState) (owner : ℕ → ℕ) (p id j : ℕ) (rs : List Sea
 none_there c owner p id j [] mine away f = tt
 none_there c owner p id j (r ∷ rs) mine away f = ((λ e. away (sym f.0.0 ∙ (ap owner (sym e) ∙ mine))), none_there c owner p id j rs mine away f.1)
 
+-- of the views after one was cut in two
+each_dealt : (views : List View) (id : ℕ) (left right : View) (P : ℕ → View → Type 0) → P id left → P (length (set views id left)) right → ((j : ℕ) (u : View) → j ≢ id → get_elem? views j ≡ some u → P j u)
+    → (j : ℕ) (u : View) → get_elem? (set views id left ++ right ∷ []) j ≡ some u → P j u
+each_dealt views id left right P mine new others j u e =
+    ⊎_elim
+    (λ t. ⊎_elim
+    (λ (k : (j ≡ id) × (left ≡ u)). subst (λ n. P n u) (sym k.0) (subst (P id) k.1 mine))
+    (λ (k : (j ≢ id) × (get_elem? views j ≡ some u)). others j u k.0 k.1)
+    (at_set views id j left u t))
+    (λ (t : (j ≡ length (set views id left)) × (right ≡ u)). subst (λ n. P n u) (sym t.0) (subst (P (length (set views id left))) t.1 new))
+    (at_end (set views id left) right u j e)
+
+pub deal_keeps : (id : ℕ) (v : View) → Splits KeepLoads id v (rest_view v) (dealt_view v)
+deal_keeps id v = λ s h seat. each_dealt s.views id (rest_view v) (dealt_view v) (λ _ u. LoadsHold s.words u.loads) (h id v seat) tt (λ j u away e. h j u e)
+
 pub deals : (lists : List (List CoreEntry)) (id : ℕ) (v : View) → Splits (Holds lists) id v (rest_view v) (dealt_view v)
 deals lists id v = λ s h seat. go s h seat v.rows refl
   where
@@ -134,14 +152,7 @@ deals lists id v = λ s h seat. go s h seat v.rows refl
         owner' = owner_by rows
 
         each : (P : ℕ → View → Type 0) → P id (rest_view v) → P new (dealt_view v) → ((j : ℕ) (u : View) → j ≢ id → get_elem? s.views j ≡ some u → P j u) → (j : ℕ) (u : View) → get_elem? (set s.views id (rest_view v) ++ dealt_view v ∷ []) j ≡ some u → P j u
-        each P left right others j u e =
-            ⊎_elim
-            (λ t. ⊎_elim
-            (λ (k : (j ≡ id) × (rest_view v ≡ u)). subst (λ n. P n u) (sym k.0) (subst (P id) k.1 left))
-            (λ (k : (j ≢ id) × (get_elem? s.views j ≡ some u)). others j u k.0 k.1)
-            (at_set s.views id j (rest_view v) u t))
-            (λ (t : (j ≡ new) × (dealt_view v ≡ u)). subst (λ n. P n u) (sym t.0) (subst (P new) t.1 right))
-            (at_end (set s.views id (rest_view v)) (dealt_view v) u j e)
+        each = each_dealt s.views id (rest_view v) (dealt_view v)
 
         longer : (i p : ℕ) → HasSeat (set s.views id (rest_view v)) i p → HasSeat (set s.views id (rest_view v) ++ dealt_view v ∷ []) i p
         longer i p k = record { view = k.view; there = at_longer (set s.views id (rest_view v)) (dealt_view v ∷ []) i k.view k.there; row = k.row }
@@ -248,6 +259,22 @@ seat_moved s id v other w owner seat its away p k = go (ℕ_discrete (owner p) o
         subst (λ i. HasSeat (set (set s.views id (joined_view v w)) other spent_view) i p) (sym (moved_else owner other id p (owner p) refl n))
         (record { view = first.view; there = set_else (set s.views id (joined_view v w)) other (owner p) spent_view n ∙ first.there; row = first.row })
 
+-- of the views after one took in another
+each : (s : table.State ℕ View) (id : ℕ) (both : View) (other : ℕ) (P : ℕ → View → Type 0) → P id both → P other spent_view → ((j : ℕ) (u : View) → j ≢ id → j ≢ other → get_elem? s.views j ≡ some u → P j u)
+    → (j : ℕ) (u : View) → get_elem? (set (set s.views id both) other spent_view) j ≡ some u → P j u
+each s id both other P mine spent others j u e =
+    ⊎_elim
+    (λ (t : (j ≡ other) × (spent_view ≡ u)). subst (λ n. P n u) (sym t.0) (subst (P other) t.1 spent))
+    (λ (t : (j ≢ other) × (get_elem? (set s.views id both) j ≡ some u)).
+    ⊎_elim
+    (λ (k : (j ≡ id) × (both ≡ u)). subst (λ n. P n u) (sym k.0) (subst (P id) k.1 mine))
+    (λ (k : (j ≢ id) × (get_elem? s.views j ≡ some u)). others j u k.0 t.0 k.1)
+    (at_set s.views id j both u t.1))
+    (at_set (set s.views id both) other j spent_view u e)
+
+pub join_keeps : (id : ℕ) (v : View) (other : ℕ) (w : View) → Joins KeepLoads id v other w (joined_view v w) spent_view
+join_keeps id v other w = λ s h seat n there. each s id (joined_view v w) other (λ _ u. LoadsHold s.words u.loads) (h id v seat) tt (λ j u a b e. h j u e)
+
 pub joins : (lists : List (List CoreEntry)) (id : ℕ) (v : View) (other : ℕ) (w : View) → Joins (Holds lists) id v other w (joined_view v w) spent_view
 joins lists id v other w = λ s h seat n there.
     let n' : other ≢ id = n in
@@ -270,18 +297,6 @@ joins lists id v other w = λ s h seat n there.
       apart = each s id both other (λ _ u. AreApart u.rows) (apart_append h.state h.owner id other v.rows w.rows n' (h.rows id v seat) (h.rows other w its) (h.apart id v seat) (h.apart other w its)) tt (λ j u a b e. h.apart j u e);
       loads = each s id both other (λ _ u. LoadsHold s.words u.loads) (h.loads id v seat) tt (λ j u a b e. h.loads j u e);
     }
-  where
-    each : (s : table.State ℕ View) (id : ℕ) (both : View) (other : ℕ) (P : ℕ → View → Type 0) → P id both → P other spent_view → ((j : ℕ) (u : View) → j ≢ id → j ≢ other → get_elem? s.views j ≡ some u → P j u)
-        → (j : ℕ) (u : View) → get_elem? (set (set s.views id both) other spent_view) j ≡ some u → P j u
-    each s id both other P mine spent others j u e =
-        ⊎_elim
-        (λ (t : (j ≡ other) × (spent_view ≡ u)). subst (λ n. P n u) (sym t.0) (subst (P other) t.1 spent))
-        (λ (t : (j ≢ other) × (get_elem? (set s.views id both) j ≡ some u)).
-        ⊎_elim
-        (λ (k : (j ≡ id) × (both ≡ u)). subst (λ n. P n u) (sym k.0) (subst (P id) k.1 mine))
-        (λ (k : (j ≢ id) × (get_elem? s.views j ≡ some u)). others j u k.0 t.0 k.1)
-        (at_set s.views id j both u t.1))
-        (at_set (set s.views id both) other j spent_view u e)
 
 -- ---- Closing.
 
@@ -299,7 +314,7 @@ run_rows n s (st ∷ steps) = run_rows n (if can n s st then core_after s st els
     either true = after_rows s st
     either false = refl
 
-rows_of : (lists : List (List CoreEntry)) (s : table.State ℕ View) (h : Holds lists s) → length h.state.rows ≡ length lists
+pub rows_of : (lists : List (List CoreEntry)) (s : table.State ℕ View) (h : Holds lists s) → length h.state.rows ≡ length lists
 rows_of lists s h = ap (λ (c : CoreState). length c.rows) (sym h.reached) ∙ (run_rows (parts_in lists) (resting_core lists) h.steps ∙ length-map lists resting_row)
 
 at_row : (c : CoreState) (owner : ℕ → ℕ) (id p : ℕ) (stays : ℕ → Bool) (rs : List SeatRow) → AreSeatRows c owner id rs → HasSeatRow p rs → kept_rows rs stays p ≡ kept_of c stays p

@@ -1,6 +1,6 @@
 -- The rule as sentences, and which status lies in the window.
 use Rattle.std.proofs.Common.{◌≡◌, ℕ, zero, suc, ◌+◌, ◌<◌, ◌≤◌, arith, ◌==◌, Bool, true, false, ◌&&◌, if◌then◌else◌, List, [], ◌∷◌, length, get_or, set, replicate, Some, None, refl, sym, ap, ◌∙◌, subst}
-use Rattle.std.specs.Prelude.{Contains, slice_index, unwrap_or, nat_le}
+use Rattle.std.specs.Prelude.{Contains, slice_index, unwrap_or, nat_le, nat_lt}
 use Rattle.std.specs.Int.{bit_at}
 use Rattle.std.specs.List.{list_any, list_all}
 use Rattle.std.proofs.lemmas.Bool.{lt-ltb, le-ltb}
@@ -12,11 +12,13 @@ use native.Mathlib.Decide.{dec_lt}
 use Rattle.atomic_table.specs.Table as table
 use Rattle.txn_base.specs.declared.txn.Status.{Status}
 use Rattle.txn_base.specs.declared.core_entry.CoreEntry.{CoreEntry}
+use Rattle.txn_base.specs.declared.core_entry.CoreEntry.TheVariants as core
+use Rattle.txn_base.specs.declared.txn.Decision.{Decision}
 use Rattle.txn_base.specs.declared.txn.Status.TheVariants.{Open}
 use Rattle.txn_model.specs.Words.{last_of}
-use Rattle.txn_model.specs.Coord.{has_new, says_status, status_of, count_new}
+use Rattle.txn_model.specs.Coord.{has_new, says_status, status_of, count_new, closing_skeleton}
 use Rattle.txn_model.specs.Deadlines.{txn, is_closed}
-use Rattle.txn_model.proofs.Laws.Tests.{no_true}
+use Rattle.txn_model.proofs.Laws.Tests.{no_true, and_l}
 use Rattle.txn_core.specs.declared.step.CoreRow.{CoreRow}
 use Rattle.txn_core.specs.declared.step.CoreStep.TheVariants as act
 use Rattle.txn_core.specs.Together.{AreLawful}
@@ -27,31 +29,31 @@ use Rattle.txn_board.specs.declared.view.View.{View}
 use Rattle.txn_board.specs.declared.words.Word.{Word}
 use Rattle.txn_board.specs.declared.words.Word.TheVariants.{Registered, Decided, Done}
 use Rattle.txn_board.specs.Words.{window, IsIn, is_in, word_at, as_bit, is_bit_set, tells, has_closing}
-use Rattle.txn_board.specs.Rows.{parts_in, list_in, low_in, AreSeatRows, with_row_by, settle_view, drop_view, start_view}
-use Rattle.txn_board.specs.Rule.{LoadsHold, CanOpenBoard, Holds, StepsTo, IsUnclosed}
-use Rattle.txn_board.specs.Calls.{IsSettling, MayDrop, MayStart}
-use Rattle.txn_board.specs.Seen.{last_value, bit_seen, status_by, status_told, ReadsStatus}
-use Rattle.txn_board.proofs.Steps.{log_lawful, mine}
+use Rattle.txn_board.specs.Rows.{parts_in, list_in, low_in, AreSeatRows, with_row_by, settle_view, drop_view, start_view, loaded}
+use Rattle.txn_board.specs.Rule.{CanOpenBoard, HasSeat, Holds, StepsTo, IsUnclosed}
+use Rattle.txn_board.specs.Calls.{IsSettling, MayDrop, MayStart, MayStartIn, MayMark, MayClose, start_where, closing_by, closing_in, first_missing, StartsInside, StartsMarker, StartsClosing}
+use Rattle.txn_board.specs.Seen.{last_value, bit_seen, status_by, decision_by, status_told, ReadsStatus}
+use Rattle.txn_board.proofs.Steps.{log_lawful, load_in, mine}
+use Rattle.txn_board.proofs.Seating.{rows_of}
 use Rattle.txn_board.proofs.Settling.{may_settle, may_lose}
-use Rattle.txn_board.proofs.Startings.{can_start}
+use Rattle.txn_board.proofs.Startings.{can_start, inside_allowed, marker_allowed}
+use Rattle.txn_board.proofs.Closings.{closing_allowed}
 use Rattle.txn_board.proofs.Watermark.{closed_below, closed_is, closing_is}
 use Rattle.txn_board.proofs.Meanings.{status_is}
 use Rattle.txn_board.proofs.Telling.{logged_below, below_same, status_bits, no_loads}
 
 -- ---- Rows and loads.
 
-row_in : (c : CoreState) (owner : ℕ → ℕ) (id : ℕ) (rs : List SeatRow) (r : SeatRow) (k : ℕ) → AreSeatRows c owner id rs → k < length rs → get_or rs k r ≡ r → row_of c r.part ≡ r.row
+row_in : (c : CoreState) (owner : ℕ → ℕ) (id : ℕ) (rs : List SeatRow) (r : SeatRow) (k : ℕ) → AreSeatRows c owner id rs → k < length rs → get_or rs k r ≡ r → (r.part < length c.rows) × (row_of c r.part ≡ r.row)
 row_in c owner id [] r k f lt e = absurd (omega (arith, lt))
-row_in c owner id (q ∷ rs) r zero f lt e = subst (λ (t : SeatRow). row_of c t.part ≡ t.row) e f.0.2
+row_in c owner id (q ∷ rs) r zero f lt e = subst (λ (t : SeatRow). (t.part < length c.rows) × (row_of c t.part ≡ t.row)) e (f.0.1, f.0.2)
 row_in c owner id (q ∷ rs) r (suc k) f lt e = row_in c owner id rs r k f.1 (omega (arith, lt)) e
 
-pub rows_are : (lists : List (List CoreEntry)) (s : table.State ℕ View) (h : Holds lists s) (id : ℕ) (v : View) (r : SeatRow) → get_elem? s.views id ≡ some v → Contains v.rows r → row_of h.state r.part ≡ r.row
-rows_are lists s h id v r seat k = row_in h.state h.owner id v.rows r k.0 (h.rows id v seat) k.1 k.2
+pub rows_are : (lists : List (List CoreEntry)) (s : table.State ℕ View) (h : Holds lists s) (id : ℕ) (v : View) (r : SeatRow) → get_elem? s.views id ≡ some v → Contains v.rows r → (r.part < length lists) × (row_of h.state r.part ≡ r.row)
+rows_are lists s h id v r seat k = let f = row_in h.state h.owner id v.rows r k.0 (h.rows id v seat) k.1 k.2 in (subst (λ n. r.part < n) (rows_of lists s h) f.0, f.1)
 
-load_in : (words : List ℕ) (ls : List Load) (l : Load) (p k : ℕ) → LoadsHold words ls → k < length ls → get_or ls k l ≡ l → bit_at l.value p ≤ bit_at (slice_index words l.place) p
-load_in words [] l p k h lt e = absurd (omega (arith, lt))
-load_in words (m ∷ ls) l p zero h lt e = subst (λ (t : Load). bit_at t.value p ≤ bit_at (slice_index words t.place) p) e (h.0.bits p)
-load_in words (m ∷ ls) l p (suc k) h lt e = load_in words ls l p k h.1 (omega (arith, lt)) e
+pub seated_all : (lists : List (List CoreEntry)) (s : table.State ℕ View) (h : Holds lists s) (p : ℕ) → p < length lists → (id : ℕ) × HasSeat s.views id p
+seated_all lists s h p lt = (h.owner p, h.seated p (subst (λ n. p < n) (sym (rows_of lists s h)) lt))
 
 pub loads_stay : (lists : List (List CoreEntry)) (s : table.State ℕ View) (h : Holds lists s) (id p : ℕ) (v : View) (l : Load) → get_elem? s.views id ≡ some v → Contains v.loads l → bit_at l.value p ≤ bit_at (slice_index s.words l.place) p
 loads_stay lists s h id p v l seat k = load_in s.words v.loads l p k.0 (h.loads id v seat) k.1 k.2
@@ -128,6 +130,49 @@ module _ (lists : List (List CoreEntry)) (s : table.State ℕ View) (h : Holds l
 
   pub starts_by : (es : List CoreEntry) (m : MayStart (parts_in lists) es v) → list_all (may_cross (settled_of h.state) m.row.part) es ≡ true → StepsTo (parts_in lists) h.state (act.Start m.row.part es) m.row.part (start_view es v)
   starts_by es m cross = record { allowed = can_start lists s h id v seat es m cross; row = stepped lists s h id v seat m.row m.one (start_row es) }
+
+-- ---- Starts that load words of their transaction are steps of the core at their last load.
+
+start_rows : (es : List CoreEntry) (v : View) → nat_le 1 (length es) ≡ true → (start_where es v).rows ≡ (start_view es v).rows
+start_rows [] v h = absurd (no_true h)
+start_rows (e ∷ es) v h = refl
+
+-- of a view that a start made, by what the starting view shows
+start_by : (lists : List (List CoreEntry)) (s : table.State ℕ View) (h : Holds lists s) (id : ℕ) (v : View) (seat : get_elem? s.views id ≡ some v) (es : List CoreEntry) (m : MayStart (parts_in lists) es v)
+    → list_all (may_cross (settled_of h.state) m.row.part) es ≡ true → (w : View) → w.rows ≡ (start_where es v).rows → StepsTo (parts_in lists) h.state (act.Start m.row.part es) m.row.part w
+start_by lists s h id v seat es m cross w rows =
+    let k = starts_by lists s h id v seat es m cross in
+    record { allowed = k.allowed; row = rows ∙ (start_rows es v (and_l (nat_le 1 (length es)) (nat_le (length es) (if m.row.part == 0 then 1 else 64)) m.batch) ∙ k.row) }
+
+module _ (made : Type 0) (lists : List (List CoreEntry)) (x : ℕ) where
+  pub inside_by : (count n : ℕ) (v w : View) (k : StartsInside made lists x count n true v w) (p : made) (m : MayStartIn (parts_in lists) x count v) → IsIn (low_in lists) window x
+      → StepsTo (parts_in lists) (k.starts.found p).rule.state (act.Start m.may.row.part (replicate count (core.Inside (txn x)))) m.may.row.part w
+  inside_by count n v w k p m inside =
+      let f = k.starts.found p in
+      start_by lists f.board f.rule f.seat v f.view (replicate count (core.Inside (txn x))) m.may
+      (inside_allowed lists f.board f.rule (word_at (low_in lists) x Registered) x count m.may.row.part inside refl m.part (ap (λ j. nat_lt m.may.row.part 64 && is_bit_set j m.may.row.part) f.stood ∙ sym (k.is m.may.row m.may.one))) w
+      (ap (λ (u : View). u.rows) k.starts.view)
+
+  pub marker_by : (n : ℕ) (d : Decision) (v w : View) (k : StartsMarker made lists x n (Some d) v w) (p : made) (m : MayMark (parts_in lists) x v) → IsIn (low_in lists) window x
+      → StepsTo (parts_in lists) (k.starts.found p).rule.state (act.Start (m d).row.part (core.Marker (txn x) d ∷ [])) (m d).row.part w
+  marker_by n d v w k p m inside =
+      let f = k.starts.found p in
+      start_by lists f.board f.rule f.seat v f.view (core.Marker (txn x) d ∷ []) (m d)
+      (marker_allowed lists f.board f.rule (word_at (low_in lists) x Decided) x (m d).row.part d inside refl (ap (λ j. decision_by (is_bit_set j 0) (is_bit_set j 1)) f.stood ∙ sym k.is)) w
+      (ap (λ (u : View). u.rows) k.starts.view)
+
+  pub close_by : (reg done : ℕ) (v w : View) (k : StartsClosing made lists x reg done None v w) (p : made) (m : MayClose (parts_in lists) x v) → IsIn (low_in lists) window x
+      → StepsTo (parts_in lists) (k.starts.found p).rule.state (act.Start 0 (closing_skeleton (txn x) m.decision ∷ [])) 0 w
+  close_by reg done v w k p m inside =
+      let f = k.starts.found p in
+      let u = loaded (word_at (low_in lists) x Registered) reg v in
+      let may : MayStart (parts_in lists) (closing_skeleton (txn x) m.decision ∷ []) u =
+      record { row = m.may.row; one = m.may.one; resting = m.may.resting; batch = m.may.batch; alone = m.may.alone } in
+      let s : StepsTo (parts_in lists) f.rule.state (act.Start m.may.row.part (closing_skeleton (txn x) m.decision ∷ [])) m.may.row.part w =
+      start_by lists f.board f.rule f.seat u f.view (closing_skeleton (txn x) m.decision ∷ []) may
+      (closing_allowed lists f.board f.rule f.seat u f.view x reg m.may.row m.decision inside m.may.one m.first m.decided (k.of_row p) (ap (first_missing reg) f.stood ∙ sym k.least)) w
+      (ap (λ (t : View). t.rows) k.starts.view ∙ ap (λ (es : List CoreEntry). (start_where es u).rows) (ap (λ rs. closing_in rs x) m.may.one ∙ ap (λ o. closing_by o x) m.decided)) in
+      subst (λ q. StepsTo (parts_in lists) f.rule.state (act.Start q (closing_skeleton (txn x) m.decision ∷ [])) q w) m.first s
 
 -- ---- Boards that can be opened.
 

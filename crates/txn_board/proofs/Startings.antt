@@ -150,6 +150,15 @@ registers : (lists : ℕ → List CoreEntry) (x p : ℕ) → p ≢ 0 → tells l
 registers lists x zero away h = absurd (away refl)
 registers lists x (suc p) away h = h
 
+-- messages or a hold of a part whose bit the word has
+pub inside_allowed : (lists : List (List CoreEntry)) (s : table.State ℕ View) (h : Holds lists s) (place x count p : ℕ) → IsIn (low_in lists) window x → place ≡ word_at (low_in lists) x Registered → p ≢ 0
+    → (nat_lt p 64 && is_bit_set (slice_index s.words place) p) ≡ true → list_all (may_cross (settled_of h.state) p) (replicate count (core.Inside (txn x))) ≡ true
+inside_allowed lists s h place x count p inside at away t =
+    let small : p < 64 = ltb-true p 64 (and_l (nat_lt p 64) (is_bit_set (slice_index s.words place) p) t) in
+    let bit : is_bit_set (slice_index s.words (word_at (low_in lists) x Registered)) p ≡ true = ap (λ i. is_bit_set (slice_index s.words i) p) (sym at) ∙ and_r (nat_lt p 64) (is_bit_set (slice_index s.words place) p) t in
+    let told : tells (settled_of h.state) (txn x) Registered p ≡ true = bit_true (tells (settled_of h.state) (txn x) Registered p) (ap (λ k. k == 1) (sym (h.words.bits x Registered p inside small)) ∙ bit) in
+    inside_cross (settled_of h.state) p x count (registers (settled_of h.state) x p away told)
+
 pub starts_in : (lists : List (List CoreEntry)) (id : ℕ) (v : View) (place x count : ℕ) (number : Option ℕ) → IsIn (low_in lists) window x → place ≡ word_at (low_in lists) x Registered
     → ((r : SeatRow) → v.rows ≡ r ∷ [] → number ≡ Some r.part) → MayStartIn (parts_in lists) x count v
     → AllowsTo (Holds lists) id v place (λ n. n) (λ n. loaded place n (start_where (inside_where (bit_found number n) x count) v))
@@ -162,12 +171,9 @@ starts_in lists id v place x count number inside at its m =
     go s h seat true f e more is =
         let p = m.may.row.part in
         let t : (nat_lt p 64 && is_bit_set (slice_index s.words place) p) ≡ true = ap (λ o. bit_found o (slice_index s.words place)) (sym (its m.may.row m.may.one)) ∙ f in
-        let small : p < 64 = ltb-true p 64 (and_l (nat_lt p 64) (is_bit_set (slice_index s.words place) p) t) in
-        let bit : is_bit_set (slice_index s.words (word_at (low_in lists) x Registered)) p ≡ true = ap (λ i. is_bit_set (slice_index s.words i) p) (sym at) ∙ and_r (nat_lt p 64) (is_bit_set (slice_index s.words place) p) t in
-        let told : tells (settled_of h.state) (txn x) Registered p ≡ true = bit_true (tells (settled_of h.state) (txn x) Registered p) (ap (λ k. k == 1) (sym (h.words.bits x Registered p inside small)) ∙ bit) in
         let fits : StartFits lists m.may.row (replicate count (core.Inside (txn x))) =
         record { none = λ y lt. none_inside (txn y) (txn x) count (below_none lists y x inside lt); begun = no_begin lists s h id v seat m.may.row m.may.one (replicate count (core.Inside (txn x))) (no_new_inside (txn x) count) } in
-        (m.may, inside_cross (settled_of h.state) p x count (registers (settled_of h.state) x p m.part told), fits)
+        (m.may, inside_allowed lists s h place x count p inside at m.part t, fits)
 
 -- ---- Markers.
 
@@ -208,6 +214,24 @@ decided_along n x d front (e ∷ rest) law h =
 pub decided : (n : ℕ) (c : List CoreEntry) (x : TxnId) (d : Decision) → CoordLawful n c → list_any (decides x d) c ≡ true → decision_of c x ≡ Some d
 decided n c x d law h = decided_along n x d [] c law h
 
+-- the marker of the decision whose bit the word has
+pub marker_allowed : (lists : List (List CoreEntry)) (s : table.State ℕ View) (h : Holds lists s) (place x p : ℕ) (d : Decision) → IsIn (low_in lists) window x → place ≡ word_at (low_in lists) x Decided
+    → decision_by (is_bit_set (slice_index s.words place) 0) (is_bit_set (slice_index s.words place) 1) ≡ Some d → list_all (may_cross (settled_of h.state) p) (core.Marker (txn x) d ∷ []) ≡ true
+marker_allowed lists s h place x p d inside at is = go (is_bit_set (slice_index s.words place) 0) (is_bit_set (slice_index s.words place) 1) refl refl is
+  where
+    cross : (i : ℕ) (d : Decision) → i < 64 → tells (settled_of h.state) (txn x) Decided i ≡ list_any (decides (txn x) d) (settled_of h.state 0) → is_bit_set (slice_index s.words place) i ≡ true
+        → list_all (may_cross (settled_of h.state) p) (core.Marker (txn x) d ∷ []) ≡ true
+    cross i d small same bit =
+        let b : is_bit_set (slice_index s.words (word_at (low_in lists) x Decided)) i ≡ true = ap (λ j. is_bit_set (slice_index s.words j) i) (sym at) ∙ bit in
+        let told : list_any (decides (txn x) d) (settled_of h.state 0) ≡ true = sym same ∙ bit_true (tells (settled_of h.state) (txn x) Decided i) (ap (λ k. k == 1) (sym (h.words.bits x Decided i inside small)) ∙ b) in
+        let law = log_lawful lists s h in
+        and_both (is_decision (decision_of (settled_of h.state 0) (txn x)) d) true (decision_test (decision_of (settled_of h.state 0) (txn x)) d (decided (parts_in lists) (settled_of h.state 0) (txn x) d law told)) refl
+
+    go : (a b : Bool) → is_bit_set (slice_index s.words place) 0 ≡ a → is_bit_set (slice_index s.words place) 1 ≡ b → decision_by a b ≡ Some d → list_all (may_cross (settled_of h.state) p) (core.Marker (txn x) d ∷ []) ≡ true
+    go true b f g e = subst (λ w. list_all (may_cross (settled_of h.state) p) (core.Marker (txn x) w ∷ []) ≡ true) (cc e) (cross 0 Commit (omega arith) refl f)
+    go false true f g e = subst (λ w. list_all (may_cross (settled_of h.state) p) (core.Marker (txn x) w ∷ []) ≡ true) (cc e) (cross 1 Abort (omega arith) refl g)
+    go false false f g e = absurd (cc e)
+
 pub starts_marker : (lists : List (List CoreEntry)) (id : ℕ) (v : View) (place x : ℕ) → IsIn (low_in lists) window x → place ≡ word_at (low_in lists) x Decided
     → ((d : Decision) → MayStart (parts_in lists) (marker_where x (Some d)) v)
     → AllowsTo (Holds lists) id v place (λ n. n) (λ n. loaded place n (start_where (marker_where x (decision_by (is_bit_set n 0) (is_bit_set n 1))) v))
@@ -215,22 +239,14 @@ starts_marker lists id v place x inside at m =
     λ s h seat. start_at lists s h id v seat place (marker_where x (decision_by (is_bit_set (slice_index s.words place) 0) (is_bit_set (slice_index s.words place) 1)))
     (λ e more is. go s h seat (is_bit_set (slice_index s.words place) 0) (is_bit_set (slice_index s.words place) 1) refl refl e more is)
   where
-    cross : (s : table.State ℕ View) (h : Holds lists s) (p i : ℕ) (d : Decision) → i < 64 → tells (settled_of h.state) (txn x) Decided i ≡ list_any (decides (txn x) d) (settled_of h.state 0) → is_bit_set (slice_index s.words place) i ≡ true
-        → list_all (may_cross (settled_of h.state) p) (marker_where x (Some d)) ≡ true
-    cross s h p i d small same bit =
-        let b : is_bit_set (slice_index s.words (word_at (low_in lists) x Decided)) i ≡ true = ap (λ j. is_bit_set (slice_index s.words j) i) (sym at) ∙ bit in
-        let told : list_any (decides (txn x) d) (settled_of h.state 0) ≡ true = sym same ∙ bit_true (tells (settled_of h.state) (txn x) Decided i) (ap (λ k. k == 1) (sym (h.words.bits x Decided i inside small)) ∙ b) in
-        let law = log_lawful lists s h in
-        and_both (is_decision (decision_of (settled_of h.state 0) (txn x)) d) true (decision_test (decision_of (settled_of h.state 0) (txn x)) d (decided (parts_in lists) (settled_of h.state 0) (txn x) d law told)) refl
-
     fits : (s : table.State ℕ View) (h : Holds lists s) → get_elem? s.views id ≡ some v → (d : Decision) → StartFits lists (m d).row (core.Marker (txn x) d ∷ [])
     fits s h seat d =
         record { none = λ y lt. none_one (txn y) (core.Marker (txn x) d) (below_none lists y x inside lt); begun = no_begin lists s h id v seat (m d).row (m d).one (core.Marker (txn x) d ∷ []) refl }
 
     go : (s : table.State ℕ View) (h : Holds lists s) → get_elem? s.views id ≡ some v → (a b : Bool) → is_bit_set (slice_index s.words place) 0 ≡ a → is_bit_set (slice_index s.words place) 1 ≡ b → (e : CoreEntry) (more : List CoreEntry) → marker_where x (decision_by a b) ≡ e ∷ more
         → (k : MayStart (parts_in lists) (marker_where x (decision_by a b)) v) × (list_all (may_cross (settled_of h.state) k.row.part) (marker_where x (decision_by a b)) ≡ true) × StartFits lists k.row (marker_where x (decision_by a b))
-    go s h seat true b f g e more is = (m Commit, cross s h (m Commit).row.part 0 Commit (omega arith) refl f, fits s h seat Commit)
-    go s h seat false true f g e more is = (m Abort, cross s h (m Abort).row.part 1 Abort (omega arith) refl g, fits s h seat Abort)
+    go s h seat true b f g e more is = (m Commit, marker_allowed lists s h place x (m Commit).row.part Commit inside at (ap (λ t. decision_by t (is_bit_set (slice_index s.words place) 1)) f), fits s h seat Commit)
+    go s h seat false true f g e more is = (m Abort, marker_allowed lists s h place x (m Abort).row.part Abort inside at (ap (λ t. decision_by t (is_bit_set (slice_index s.words place) 1)) f ∙ ap (decision_by false) g), fits s h seat Abort)
     go s h seat false false f g e more is = absurd (cc is)
 
 -- ---- The place of a word in the window.
@@ -266,3 +282,17 @@ step_numbered number (turn.Marker x) v n h = numbered_where number (marker_where
 step_numbered number (turn.Close x reg) v n h = numbered_where number (closing_where (first_missing reg n) v.rows x) v h
 step_numbered number turn.Settle v n h = numbered_by settle_row number v.rows h
 step_numbered number turn.Lose v n h = numbered_by (stop_row false) number v.rows h
+
+-- a step leaves the loads
+
+where_loads : (es : List CoreEntry) (v : View) → (start_where es v).loads ≡ v.loads
+where_loads [] v = refl
+where_loads (e ∷ es) v = refl
+
+pub step_loads : (step : RowStep) (v : View) (n : ℕ) → (row_step step v n).loads ≡ v.loads
+step_loads (turn.Own o) v n = where_loads (own_entries o) v
+step_loads (turn.Inside x count part) v n = where_loads (inside_where (bit_found part n) x count) v
+step_loads (turn.Marker x) v n = where_loads (marker_where x (decision_by (is_bit_set n 0) (is_bit_set n 1))) v
+step_loads (turn.Close x reg) v n = where_loads (closing_where (first_missing reg n) v.rows x) v
+step_loads turn.Settle v n = refl
+step_loads turn.Lose v n = refl

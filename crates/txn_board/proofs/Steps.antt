@@ -1,15 +1,15 @@
 -- A step at which the one row of a seat changes as the core's row does, or at which none changes.
-use Rattle.std.proofs.Common.{◌≡◌, ◌≢◌, inl, inr, ℕ, zero, suc, ◌+◌, ◌*◌, ◌^◌, ◌<◌, ◌≤◌, arith, Bool, true, false, if◌then◌else◌, List, [], ◌∷◌, ◌++◌, length, set, Some, None, refl, sym, ap, ◌∙◌, subst, max}
+use Rattle.std.proofs.Common.{◌≡◌, ◌≢◌, inl, inr, ℕ, zero, suc, ◌+◌, ◌*◌, ◌^◌, ◌<◌, ◌≤◌, arith, Bool, true, false, if◌then◌else◌, List, [], ◌∷◌, ◌++◌, length, get_or, set, Some, None, refl, sym, ap, ◌∙◌, subst, max}
 use Rattle.std.specs.Prelude.{Option, slice_index, slice_index_or, map}
 use Rattle.std.specs.Int.{bit_at}
 use Rattle.std.specs.Int.Bits.{bit_or}
 use Rattle.std.proofs.lemmas.Nat.Bits.{bit_at_or}
-use Rattle.std.proofs.lemmas.List.{get_or-set_same, get_or-set_other, set-get_or, length-set, append-nil}
+use Rattle.std.proofs.lemmas.List.{get_or-set_same, get_or-set_other, set-get_or, get_or_past, length-set, append-nil}
 use Rattle.std.proofs.lemmas.List.Elements.{filter-append}
 use mathlib.Core.List.{IsPrefix}
 use mathlib.Core.Option.{some, some-injective, some-ne-none}
 use lib.ListN.{get_elem?}
-use native.Mathlib.Decide.{ℕ_discrete}
+use native.Mathlib.Decide.{ℕ_discrete, dec_lt}
 use Rattle.atomic_table.specs.Table.{Allows, keeps}
 use Rattle.atomic_table.specs.Table as table
 use Rattle.atomic_table.proofs.Lists.{at_set, set_here, set_else}
@@ -28,7 +28,7 @@ use Rattle.txn_board.specs.declared.view.View.{View}
 use Rattle.txn_board.specs.declared.words.Mark.{Mark}
 use Rattle.txn_board.specs.Words.{window, is_in, word_at, WordsSay, set_bit, with_mark, is_of, entries_of}
 use Rattle.txn_board.specs.Rows.{parts_in, list_in, low_in, AreSeatRows, AreApart, HasSeatRow, loaded}
-use Rattle.txn_board.specs.Rule.{LoadsHold, HasSeat, Holds, AllowsTo, Found}
+use Rattle.txn_board.specs.Rule.{LoadsHold, KeepLoads, ShowsOn, HasSeat, Holds, AllowsTo, Found}
 use Rattle.txn_board.proofs.Marks.{in_of, place_within}
 use Rattle.txn_board.proofs.Entries.{cut_off}
 
@@ -243,20 +243,62 @@ module _ (lists : List (List CoreEntry)) (s : table.State ℕ View) (h : Holds l
                 (ap (λ (x : CoreRow). x.settled) (get_or-set_same h.state.rows r.part row no_row mine.1) ∙ (list ∙ sym (ap (λ (x : CoreRow). x.settled) mine.2)))
             go (no m) = ap (λ (x : CoreRow). x.settled) (get_or-set_other h.state.rows r.part q row no_row m)
 
+-- ---- Loads, whatever is promised.
+
+pub load_in : (words : List ℕ) (ls : List Load) (l : Load) (p k : ℕ) → LoadsHold words ls → k < length ls → get_or ls k l ≡ l → bit_at l.value p ≤ bit_at (slice_index words l.place) p
+load_in words [] l p k h lt e = absurd (omega (arith, lt))
+load_in words (m ∷ ls) l p zero h lt e = subst (λ (t : Load). bit_at t.value p ≤ bit_at (slice_index words t.place) p) e (h.0.bits p)
+load_in words (m ∷ ls) l p (suc k) h lt e = load_in words ls l p k h.1 (omega (arith, lt)) e
+
+-- what stands at a place shows each bit that a load of it showed
+pub shows_on : (words : List ℕ) (ls : List Load) (place : ℕ) → LoadsHold words ls → ShowsOn place (slice_index words place) ls
+shows_on words ls place h l k e p = subst (λ i. bit_at l.value p ≤ bit_at (slice_index words i) p) e (load_in words ls l p k.0 h k.1 k.2)
+
+-- at a load
+pub load_keeps : (id : ℕ) (v : View) (i : ℕ) (next : ℕ → View) → ((n : ℕ) → (next n).loads ≡ v.loads ++ record { place = i; value = n } ∷ []) → AllowsTo KeepLoads id v i (λ n. n) next
+load_keeps id v i next is =
+    λ s h seat. subst (λ ws. (j : ℕ) (u : View) → get_elem? (set s.views id (next (slice_index s.words i))) j ≡ some u → LoadsHold ws u.loads) (sym (set-get_or s.words i 0))
+    (views_set (λ j u. LoadsHold s.words u.loads) s.views id (next (slice_index s.words i)) (subst (LoadsHold s.words) (sym (is (slice_index s.words i))) (loads_more s.words v.loads i (h id v seat))) (λ j u away e. h j u e))
+
+-- bits that are set wherever there is a word
+any_or_grows : (words : List ℕ) (i m place p : ℕ) → bit_at (slice_index words place) p ≤ bit_at (slice_index (set words i (bit_or (slice_index words i) m)) place) p
+any_or_grows words i m place p = go (dec_lt i (length words)) (ℕ_discrete place i)
+  where
+    new : ℕ
+    new = bit_or (slice_index words i) m
+
+    go : Dec (i < length words) → Dec (place ≡ i) → bit_at (slice_index words place) p ≤ bit_at (slice_index (set words i new) place) p
+    go (yes lt) d = or_grows words i m lt place p
+    go (no n) (no away) = subst (λ k. bit_at (slice_index words place) p ≤ bit_at k p) (sym (get_or-set_other words i place new 0 away)) (omega arith)
+    go (no n) (yes e) =
+        subst (λ k. bit_at k p ≤ bit_at (slice_index (set words i new) place) p) (sym (get_or_past words place 0 (omega (arith, n, e))))
+        (subst (λ k. bit_at 0 p ≤ bit_at k p) (sym (get_or_past (set words i new) place 0 (omega (arith, n, e, length-set words i new)))) (omega arith))
+
+-- at a step that sets bits and leaves the seat's loads
+pub or_keeps : (id : ℕ) (v : View) (i m : ℕ) (next : View) → next.loads ≡ v.loads → AllowsTo KeepLoads id v i (λ n. bit_or n m) (λ n. next)
+or_keeps id v i m next is =
+    λ s h seat. views_set (λ j u. LoadsHold (set s.words i (bit_or (slice_index s.words i) m)) u.loads) s.views id next
+    (loads_grow s.words (set s.words i (bit_or (slice_index s.words i) m)) (any_or_grows s.words i m) next.loads (subst (LoadsHold s.words) (sym is) (h id v seat)))
+    (λ j u away e. loads_grow s.words (set s.words i (bit_or (slice_index s.words i) m)) (any_or_grows s.words i m) u.loads (h j u e))
+
 -- ---- Steps whose next view is told, under a promise.
 
-pub guarded : (φ : Type 0) (holds : table.State ℕ View → Type 0) (slots id : ℕ) (me : View × List (ℕ × ℕ)) (i : ℕ) (f : ℕ → ℕ) (next : ℕ → View) → (φ → AllowsTo holds id me.0 i f next)
-    → Allows (λ s. φ → holds s) slots id me i f (λ n w. w ≡ (next n, me.1))
-guarded φ holds slots id me i f next allows = λ s h len seat fits. (next (slice_index s.words i), keeps, tt, (λ p. allows p s (h p) seat), refl)
+pub guarded : (φ : Type 0) (holds : table.State ℕ View → Type 0) (slots id : ℕ) (me : View × List (ℕ × ℕ)) (i : ℕ) (f : ℕ → ℕ) (next : ℕ → View) → AllowsTo KeepLoads id me.0 i f next → (φ → AllowsTo holds id me.0 i f next)
+    → Allows (λ s. KeepLoads s × (φ → holds s)) slots id me i f (λ n w. w ≡ (next n, me.1))
+guarded φ holds slots id me i f next loads allows = λ s h len seat fits. (next (slice_index s.words i), keeps, tt, (loads s h.0 seat, λ p. allows p s (h.1 p) seat), refl)
 
 -- the same of a load, which shows what stood at its place
-pub guarded_found : (φ : Type 0) (key lists : List (List CoreEntry)) → key ≡ lists → (slots id : ℕ) (me : View × List (ℕ × ℕ)) (i : ℕ) (next : ℕ → View) → (φ → AllowsTo (Holds lists) id me.0 i (λ n. n) next)
-    → Allows (λ s. φ → Holds key s) slots id me i (λ n. n) (λ n w. (w ≡ (next n, me.1)) × (φ → Found lists i n me.0))
-guarded_found φ key lists same slots id me i next allows =
+pub guarded_found : (φ : Type 0) (key lists : List (List CoreEntry)) → key ≡ lists → (slots id : ℕ) (me : View × List (ℕ × ℕ)) (i : ℕ) (next : ℕ → View) → ((n : ℕ) → (next n).loads ≡ me.0.loads ++ record { place = i; value = n } ∷ [])
+    → (φ → AllowsTo (Holds lists) id me.0 i (λ n. n) next)
+    → Allows (λ s. KeepLoads s × (φ → Holds key s)) slots id me i (λ n. n) (λ n w. (w ≡ (next n, me.1)) × (φ → Found lists i n me.0) × ShowsOn i n me.0.loads)
+guarded_found φ key lists same slots id me i next is allows =
     λ s h len seat fits. (
       next (slice_index s.words i),
       keeps,
       tt,
-      (λ p. subst (λ (k : List (List CoreEntry)). Holds k (record { words = set s.words i (slice_index s.words i); homes = s.homes; views = set s.views id (next (slice_index s.words i)) })) (sym same) (allows p s (subst (λ (k : List (List CoreEntry)). Holds k s) same (h p)) seat)),
-      (refl, λ p. record { board = s; seat = id; rule = subst (λ (k : List (List CoreEntry)). Holds k s) same (h p); view = seat; stood = refl }),
+      (
+        load_keeps id me.0 i next is s h.0 seat,
+        λ p. subst (λ (k : List (List CoreEntry)). Holds k (record { words = set s.words i (slice_index s.words i); homes = s.homes; views = set s.views id (next (slice_index s.words i)) })) (sym same) (allows p s (subst (λ (k : List (List CoreEntry)). Holds k s) same (h.1 p)) seat),
+      ),
+      (refl, (λ p. record { board = s; seat = id; rule = subst (λ (k : List (List CoreEntry)). Holds k s) same (h.1 p); view = seat; stood = refl }), shows_on s.words me.0.loads i (h.0 id me.0 seat)),
     )

@@ -24,14 +24,14 @@ use Rattle.txn_board.specs.declared.view.View.{View}
 use Rattle.txn_board.specs.declared.words.Word.{Word}
 use Rattle.txn_board.specs.declared.words.Word.TheVariants.{Registered, Decided, Done}
 use Rattle.txn_board.specs.Words.{window, IsIn, is_in, word_at, as_bit, is_bit_set, decides, ends, sets, teller, tells, is_of, StillHolds}
-use Rattle.txn_board.specs.Rows.{parts_in, list_in, low_in, with_loads}
-use Rattle.txn_board.specs.Rule.{LoadsHold, Holds, Once, IsTold}
+use Rattle.txn_board.specs.Rows.{parts_in, list_in, low_in, with_loads, loaded}
+use Rattle.txn_board.specs.Rule.{LoadsHold, Holds, Found, AtLastLoad, IsTold}
 use Rattle.txn_board.specs.Seen.{place_of, last_value, bit_seen, status_by, decision_by, word_places, looked, Looked, ReadsStatus, ReadsDecision, ReadsPart, ReadsDone, IsStatusIn, IsDecisionIn, IsRegisteredIn, IsDoneIn}
 use Rattle.txn_board.proofs.Entries.{said_by, sets_of, any_more, begun_below, count_more}
 use Rattle.txn_board.proofs.Marks.{in_by}
 use Rattle.txn_board.proofs.Steps.{kept, log_lawful, below_settled}
 use Rattle.txn_board.proofs.Closings.{some_marker}
-use Rattle.txn_board.proofs.Reading.{one_bit, one_reads}
+use Rattle.txn_board.proofs.Reading.{none_more, one_bit, one_reads, two, two_view}
 use Rattle.txn_board.proofs.Meanings.{said_any, status_is, said_decision, one_decision}
 
 -- ---- A word as it stands, and one that was loaded before.
@@ -112,29 +112,36 @@ no_loads lists x ws loads out places = none loads (places ∙ ap (λ t. if t the
 module _ (made : Type 0) (lists : List (List CoreEntry)) (x : ℕ) where
   -- ---- One word.
 
-  pub once_bits : (w : Word) (n : ℕ) (v : View) → Looked made lists x w n v → made → IsIn (low_in lists) window x → Once lists (λ c. (p : ℕ) → p < 64 → is_bit_set n p ≡ tells (settled_of c) (txn x) w p)
-  once_bits w n v k m inside = let f = k.found m inside in record { board = f.board; rule = f.rule; is = λ p small. stood lists f.board f.rule x w p n inside small f.stood }
+  seen_one : (w : Word) (n : ℕ) (v v1 : View) → IsIn (low_in lists) window x → v1 ≡ with_loads (looked lists x w n) v → v1 ≡ loaded (word_at (low_in lists) x w) n v
+  seen_one w n v v1 inside e = e ∙ ap (λ t. with_loads (if t then record { place = word_at (low_in lists) x w; value = n } ∷ [] else []) v) (in_by (low_in lists) window x inside)
 
-  told_decision : (told : Option Decision) (n : ℕ) (loads : List Load) (v v1 : View) → Looked made lists x Decided n v → told ≡ decision_by (is_bit_set n 0) (is_bit_set n 1) → ReadsDecision made lists x told loads v v1 → IsTold made lists x (IsDecisionIn x told)
-  told_decision told n loads v v1 k e r =
+  -- the last load was of this word
+  at_last : (fact : CoreState → Type 0) (w : Word) (n : ℕ) (front : List Load) (u v v1 : View) → IsIn (low_in lists) window x → v ≡ with_loads front u → v1 ≡ with_loads (looked lists x w n) v → (f : Found lists (word_at (low_in lists) x w) n v) → fact f.rule.state
+      → AtLastLoad lists u v1 fact
+  at_last fact w n front u v v1 inside from e f so = record { view = v; front = front; last = record { place = word_at (low_in lists) x w; value = n }; from = from; to = seen_one w n v v1 inside e; found = f; is = so }
+
+  bits_at : (w : Word) (p n : ℕ) (v : View) (f : Found lists (word_at (low_in lists) x w) n v) → IsIn (low_in lists) window x → p < 64 → is_bit_set n p ≡ tells (settled_of f.rule.state) (txn x) w p
+  bits_at w p n v f inside small = stood lists f.board f.rule x w p n inside small f.stood
+
+  told_decision : (told : Option Decision) (n : ℕ) (loads : List Load) (v v1 : View) → Looked made lists x Decided n v → v1 ≡ with_loads (looked lists x Decided n) v → told ≡ decision_by (is_bit_set n 0) (is_bit_set n 1) → ReadsDecision made lists x told loads v v1
+      → IsTold made lists x v v1 (IsDecisionIn x told)
+  told_decision told n loads v v1 k view e r =
       record {
         within = λ m inside.
-            let o = once_bits Decided n v k m inside in
-            record {
-              board = o.board;
-              rule = o.rule;
-              is = e ∙ (ap (λ t. decision_by t (is_bit_set n 1)) (o.is 0 (omega arith)) ∙ (ap (λ t. decision_by (tells (settled_of o.rule.state) (txn x) Decided 0) t) (o.is 1 (omega arith)) ∙ said_decision (parts_in lists) (settled_of o.rule.state) (txn x) (log_lawful lists o.board o.rule)));
-            };
+            let f = k.found m inside in
+            at_last (IsDecisionIn x told) Decided n [] v v v1 inside (sym (none_more v)) view f
+            (e ∙ (ap (λ t. decision_by t (is_bit_set n 1)) (bits_at Decided 0 n v f inside (omega arith)) ∙ (ap (λ t. decision_by (tells (settled_of f.rule.state) (txn x) Decided 0) t) (bits_at Decided 1 n v f inside (omega arith))
+            ∙ said_decision (parts_in lists) (settled_of f.rule.state) (txn x) (log_lawful lists f.board f.rule))));
         outside = λ out s h.
             let none = no_loads lists x (Decided ∷ []) loads out r.reads.places in
             r.is ∙ (ap (λ t. decision_by t (bit_seen lists loads x Decided 1)) (outside_bit lists s h x loads Decided 0 out none)
             ∙ (ap (λ t. decision_by (tells (settled_of h.state) (txn x) Decided 0) t) (outside_bit lists s h x loads Decided 1 out none) ∙ said_decision (parts_in lists) (settled_of h.state) (txn x) (log_lawful lists s h)));
       }
 
-  pub decision_told : (told : Option Decision) (n : ℕ) (v v1 : View) → Looked made lists x Decided n v → v1 ≡ with_loads (looked lists x Decided n) v → told ≡ decision_by (is_bit_set n 0) (is_bit_set n 1) → IsTold made lists x (IsDecisionIn x told)
+  pub decision_told : (told : Option Decision) (n : ℕ) (v v1 : View) → Looked made lists x Decided n v → v1 ≡ with_loads (looked lists x Decided n) v → told ≡ decision_by (is_bit_set n 0) (is_bit_set n 1) → IsTold made lists x v v1 (IsDecisionIn x told)
   decision_told told n v v1 k view e =
       let ls = looked lists x Decided n in
-      told_decision told n ls v v1 k e
+      told_decision told n ls v v1 k view e
       (record {
         reads = one_reads made lists x Decided n v v1 k view;
         is = e ∙ sym (ap (λ t. decision_by t (bit_seen lists ls x Decided 1)) (one_bit made lists x Decided n 0 v (omega arith) k) ∙ ap (λ t. decision_by (is_bit_set n 0) t) (one_bit made lists x Decided n 1 v (omega arith) k));
@@ -152,18 +159,19 @@ module _ (made : Type 0) (lists : List (List CoreEntry)) (x : ℕ) where
       go true false e f = ap (λ t. (nat_le 1 part && t) && a) f ∙ (ap (λ t. (t && false) && a) e ∙ sym (ap (λ t. (nat_le 1 part && t) && in_parts (settled_of c 0) (txn x) part) f ∙ ap (λ t. (t && false) && in_parts (settled_of c 0) (txn x) part) e))
       go false m e f = ap (λ t. (t && nat_lt part 64) && a) e ∙ sym (ap (λ t. (t && nat_lt part 64) && in_parts (settled_of c 0) (txn x) part) e)
 
-  told_part : (part : ℕ) (told : Bool) (n : ℕ) (loads : List Load) (v v1 : View) → Looked made lists x Registered n v → told ≡ (nat_le 1 part && nat_lt part 64 && is_bit_set n part) → ReadsPart made lists x part told loads v v1 → IsTold made lists x (IsRegisteredIn x part told)
-  told_part part told n loads v v1 k e r =
+  told_part : (part : ℕ) (told : Bool) (n : ℕ) (loads : List Load) (v v1 : View) → Looked made lists x Registered n v → v1 ≡ with_loads (looked lists x Registered n) v → told ≡ (nat_le 1 part && nat_lt part 64 && is_bit_set n part) → ReadsPart made lists x part told loads v v1
+      → IsTold made lists x v v1 (IsRegisteredIn x part told)
+  told_part part told n loads v v1 k view e r =
       record {
         within = λ m inside.
-            let o = once_bits Registered n v k m inside in
-            record { board = o.board; rule = o.rule; is = e ∙ registered_by part (is_bit_set n part) true o.rule.state (λ l f. o.is part (ltb-true part 64 f)) };
+            let f = k.found m inside in
+            at_last (IsRegisteredIn x part told) Registered n [] v v v1 inside (sym (none_more v)) view f (e ∙ registered_by part (is_bit_set n part) true f.rule.state (λ l small. bits_at Registered part n v f inside (ltb-true part 64 small)));
         outside = λ out s h. r.is ∙ registered_by part (bit_seen lists loads x Registered part) true h.state (λ l f. outside_bit lists s h x loads Registered part out (no_loads lists x (Registered ∷ []) loads out r.reads.places));
       }
 
-  pub part_told : (part : ℕ) (told : Bool) (n : ℕ) (v v1 : View) → Looked made lists x Registered n v → v1 ≡ with_loads (looked lists x Registered n) v → told ≡ (nat_le 1 part && nat_lt part 64 && is_bit_set n part) → IsTold made lists x (IsRegisteredIn x part told)
+  pub part_told : (part : ℕ) (told : Bool) (n : ℕ) (v v1 : View) → Looked made lists x Registered n v → v1 ≡ with_loads (looked lists x Registered n) v → told ≡ (nat_le 1 part && nat_lt part 64 && is_bit_set n part) → IsTold made lists x v v1 (IsRegisteredIn x part told)
   part_told part told n v v1 k view e =
-      told_part part told n (looked lists x Registered n) v v1 k e (record { reads = one_reads made lists x Registered n v v1 k view; is = e ∙ go (nat_le 1 part) (nat_lt part 64) refl refl })
+      told_part part told n (looked lists x Registered n) v v1 k view e (record { reads = one_reads made lists x Registered n v v1 k view; is = e ∙ go (nat_le 1 part) (nat_lt part 64) refl refl })
     where
       go : (l m : Bool) → nat_le 1 part ≡ l → nat_lt part 64 ≡ m → (nat_le 1 part && nat_lt part 64 && is_bit_set n part) ≡ (nat_le 1 part && nat_lt part 64 && bit_seen lists (looked lists x Registered n) x Registered part)
       go l true a b = ap (λ t. nat_le 1 part && nat_lt part 64 && t) (sym (one_bit made lists x Registered n part v (ltb-true part 64 b) k))
@@ -172,13 +180,13 @@ module _ (made : Type 0) (lists : List (List CoreEntry)) (x : ℕ) where
           ∙ (ap (λ t. (t && false) && is_bit_set n part) a ∙ sym (ap (λ t. (nat_le 1 part && t) && bit_seen lists (looked lists x Registered n) x Registered part) b ∙ ap (λ t. (t && false) && bit_seen lists (looked lists x Registered n) x Registered part) a))
       go false false a b = ap (λ t. (t && nat_lt part 64) && is_bit_set n part) a ∙ sym (ap (λ t. (t && nat_lt part 64) && bit_seen lists (looked lists x Registered n) x Registered part) a)
 
-  told_done : (n : ℕ) (loads : List Load) (v v1 : View) → Looked made lists x Done n v → ReadsDone made lists x n loads v v1 → IsTold made lists x (IsDoneIn x n)
-  told_done n loads v v1 k r =
-      record { within = once_bits Done n v k; outside = λ out s h p small. r.is p small ∙ outside_bit lists s h x loads Done p out (no_loads lists x (Done ∷ []) loads out r.reads.places) }
+  told_done : (n : ℕ) (loads : List Load) (v v1 : View) → Looked made lists x Done n v → v1 ≡ with_loads (looked lists x Done n) v → ReadsDone made lists x n loads v v1 → IsTold made lists x v v1 (IsDoneIn x n)
+  told_done n loads v v1 k view r =
+      record { within = λ m inside. let f = k.found m inside in at_last (IsDoneIn x n) Done n [] v v v1 inside (sym (none_more v)) view f (λ p small. bits_at Done p n v f inside small); outside = λ out s h p small. r.is p small ∙ outside_bit lists s h x loads Done p out (no_loads lists x (Done ∷ []) loads out r.reads.places) }
 
-  pub done_told : (n : ℕ) (v v1 : View) → Looked made lists x Done n v → v1 ≡ with_loads (looked lists x Done n) v → IsTold made lists x (IsDoneIn x n)
+  pub done_told : (n : ℕ) (v v1 : View) → Looked made lists x Done n v → v1 ≡ with_loads (looked lists x Done n) v → IsTold made lists x v v1 (IsDoneIn x n)
   done_told n v v1 k view =
-      told_done n (looked lists x Done n) v v1 k (record { reads = one_reads made lists x Done n v v1 k view; is = λ p small. sym (one_bit made lists x Done n p v small k) })
+      told_done n (looked lists x Done n) v v1 k view (record { reads = one_reads made lists x Done n v v1 k view; is = λ p small. sym (one_bit made lists x Done n p v small k) })
 
   -- ---- The status.
 
@@ -204,20 +212,20 @@ module _ (made : Type 0) (lists : List (List CoreEntry)) (x : ℕ) where
         front_hold words v.loads (looked lists x w n) all,
       )
 
-  pub told_none : (a : ℕ) (loads : List Load) (v v1 : View) → Looked made lists x Registered a v → is_bit_set a 0 ≡ false → ReadsStatus made lists x None loads v v1 → IsTold made lists x (IsStatusIn x None)
-  told_none a loads v v1 k h r =
+  pub told_none : (a : ℕ) (loads : List Load) (v v1 : View) → Looked made lists x Registered a v → v1 ≡ with_loads (looked lists x Registered a) v → is_bit_set a 0 ≡ false → ReadsStatus made lists x None loads v v1 → IsTold made lists x v v1 (IsStatusIn x None)
+  told_none a loads v v1 k e h r =
       record {
         within = λ m inside.
             let f = k.found m inside in
             let t = tells (settled_of f.rule.state) (txn x) in
             let begun : t Registered 0 ≡ false = sym (stood lists f.board f.rule x Registered 0 a inside (omega arith) f.stood) ∙ h in
-            record { board = f.board; rule = f.rule; is = sym (ap (λ b. status_by b (t Decided 0) (t Decided 1) (t Done 0)) begun) ∙ status_is (parts_in lists) (settled_of f.rule.state) (txn x) (log_lawful lists f.board f.rule) };
+            at_last (IsStatusIn x None) Registered a [] v v v1 inside (sym (none_more v)) e f (sym (ap (λ b. status_by b (t Decided 0) (t Decided 1) (t Done 0)) begun) ∙ status_is (parts_in lists) (settled_of f.rule.state) (txn x) (log_lawful lists f.board f.rule));
         outside = outside_status None loads v v1 r;
       }
 
-  pub told_open : (a b : ℕ) (loads : List Load) (v v1 v2 : View) → Looked made lists x Decided b v1 → v1 ≡ with_loads (looked lists x Registered a) v → is_bit_set a 0 ≡ true → is_bit_set b 0 ≡ false → is_bit_set b 1 ≡ false
-      → ReadsStatus made lists x (Some Open) loads v v2 → IsTold made lists x (IsStatusIn x (Some Open))
-  told_open a b loads v v1 v2 l e h c d r =
+  pub told_open : (a b : ℕ) (loads : List Load) (v v1 v2 : View) → Looked made lists x Decided b v1 → v1 ≡ with_loads (looked lists x Registered a) v → v2 ≡ with_loads (looked lists x Decided b) v1 → is_bit_set a 0 ≡ true → is_bit_set b 0 ≡ false → is_bit_set b 1 ≡ false
+      → ReadsStatus made lists x (Some Open) loads v v2 → IsTold made lists x v v2 (IsStatusIn x (Some Open))
+  told_open a b loads v v1 v2 l e g h c d r =
       record {
         within = λ m inside.
             let f = l.found m inside in
@@ -226,12 +234,9 @@ module _ (made : Type 0) (lists : List (List CoreEntry)) (x : ℕ) where
             let begun : t Registered 0 ≡ true = held lists f.board f.rule x Registered 0 a inside (omega arith) before.0 h in
             let commit : t Decided 0 ≡ false = sym (stood lists f.board f.rule x Decided 0 b inside (omega arith) f.stood) ∙ c in
             let abort : t Decided 1 ≡ false = sym (stood lists f.board f.rule x Decided 1 b inside (omega arith) f.stood) ∙ d in
-            record {
-              board = f.board;
-              rule = f.rule;
-              is = sym (ap (λ u. status_by u (t Decided 0) (t Decided 1) (t Done 0)) begun ∙ (ap (λ u. status_by true u (t Decided 1) (t Done 0)) commit ∙ ap (λ u. status_by true false u (t Done 0)) abort))
-                  ∙ status_is (parts_in lists) (settled_of f.rule.state) (txn x) (log_lawful lists f.board f.rule);
-            };
+            at_last (IsStatusIn x (Some Open)) Decided b (looked lists x Registered a) v v1 v2 inside e g f
+            (sym (ap (λ u. status_by u (t Decided 0) (t Decided 1) (t Done 0)) begun ∙ (ap (λ u. status_by true u (t Decided 1) (t Done 0)) commit ∙ ap (λ u. status_by true false u (t Done 0)) abort))
+            ∙ status_is (parts_in lists) (settled_of f.rule.state) (txn x) (log_lawful lists f.board f.rule));
         outside = outside_status (Some Open) loads v v2 r;
       }
 
@@ -241,10 +246,10 @@ module _ (made : Type 0) (lists : List (List CoreEntry)) (x : ℕ) where
   decided_same false true shut commit abort closed some c d one e = sym (ap (λ u. status_by true u abort closed) (one (d refl)) ∙ (ap (λ u. status_by true false u closed) (d refl) ∙ ap (λ u. status_by true false true u) (sym e)))
   decided_same false false shut commit abort closed some c d one e = absurd (some (refl, refl))
 
-  pub told_decided : (a b c : ℕ) (loads : List Load) (v v1 v2 v3 : View) → Looked made lists x Done c v2 → v1 ≡ with_loads (looked lists x Registered a) v → v2 ≡ with_loads (looked lists x Decided b) v1
+  pub told_decided : (a b c : ℕ) (loads : List Load) (v v1 v2 v3 : View) → Looked made lists x Done c v2 → v1 ≡ with_loads (looked lists x Registered a) v → v2 ≡ with_loads (looked lists x Decided b) v1 → v3 ≡ with_loads (looked lists x Done c) v2
       → is_bit_set a 0 ≡ true → ((is_bit_set b 0 ≡ false) × (is_bit_set b 1 ≡ false) → ⊥) → ReadsStatus made lists x (status_by true (is_bit_set b 0) (is_bit_set b 1) (is_bit_set c 0)) loads v v3
-      → IsTold made lists x (IsStatusIn x (status_by true (is_bit_set b 0) (is_bit_set b 1) (is_bit_set c 0)))
-  told_decided a b c loads v v1 v2 v3 k e f h some r =
+      → IsTold made lists x v v3 (IsStatusIn x (status_by true (is_bit_set b 0) (is_bit_set b 1) (is_bit_set c 0)))
+  told_decided a b c loads v v1 v2 v3 k e f last h some r =
       record {
         within = λ m inside.
             let g = k.found m inside in
@@ -253,12 +258,9 @@ module _ (made : Type 0) (lists : List (List CoreEntry)) (x : ℕ) where
             let second = still g.board.words Decided b v1 v2 inside f (g.rule.loads g.seat v2 g.view) in
             let first = still g.board.words Registered a v v1 inside e second.1 in
             let begun : t Registered 0 ≡ true = held lists g.board g.rule x Registered 0 a inside (omega arith) first.0 h in
-            record {
-              board = g.board;
-              rule = g.rule;
-              is = decided_same (is_bit_set b 0) (is_bit_set b 1) (is_bit_set c 0) (t Decided 0) (t Decided 1) (t Done 0) some (held lists g.board g.rule x Decided 0 b inside (omega arith) second.0) (held lists g.board g.rule x Decided 1 b inside (omega arith) second.0)
-                  (one_decision (parts_in lists) (settled_of g.rule.state) (txn x) law) (stood lists g.board g.rule x Done 0 c inside (omega arith) g.stood)
-                  ∙ (sym (ap (λ u. status_by u (t Decided 0) (t Decided 1) (t Done 0)) begun) ∙ status_is (parts_in lists) (settled_of g.rule.state) (txn x) law);
-            };
+            at_last (IsStatusIn x (status_by true (is_bit_set b 0) (is_bit_set b 1) (is_bit_set c 0))) Done c (two made lists x a b) v v2 v3 inside (two_view made lists x a b v v1 v2 e f) last g
+            (decided_same (is_bit_set b 0) (is_bit_set b 1) (is_bit_set c 0) (t Decided 0) (t Decided 1) (t Done 0) some (held lists g.board g.rule x Decided 0 b inside (omega arith) second.0) (held lists g.board g.rule x Decided 1 b inside (omega arith) second.0)
+            (one_decision (parts_in lists) (settled_of g.rule.state) (txn x) law) (stood lists g.board g.rule x Done 0 c inside (omega arith) g.stood)
+            ∙ (sym (ap (λ u. status_by u (t Decided 0) (t Decided 1) (t Done 0)) begun) ∙ status_is (parts_in lists) (settled_of g.rule.state) (txn x) law));
         outside = outside_status (status_by true (is_bit_set b 0) (is_bit_set b 1) (is_bit_set c 0)) loads v v3 r;
       }

@@ -1,8 +1,9 @@
 -- What the calls of the board ask of the row of a seat.
-use Rattle.std.specs.Prelude.{◌≡◌, ◌≢◌, ◌<◌, ◌&&◌, not, ◌+◌, ℕ, zero, suc, ◌==◌, nat_lt, Bool, true, false, if◌then◌else◌, List, [], ◌∷◌, ◌++◌, replicate, Option, Some, None}
+use Rattle.std.specs.Prelude.{◌≡◌, ◌≢◌, ◌<◌, ◌&&◌, not, ℕ, ◌==◌, nat_lt, Bool, true, false, if◌then◌else◌, List, [], ◌∷◌, ◌++◌, replicate, find, Option, Some, None}
 use Rattle.txn_base.specs.declared.txn.Decision.{Decision}
 use Rattle.txn_base.specs.declared.core_entry.CoreEntry.{CoreEntry}
 use Rattle.txn_base.specs.declared.core_entry.CoreEntry.TheVariants as core
+use Rattle.txn_model.specs.Words.{numbers_from}
 use Rattle.txn_model.specs.Coord.{decision_skeleton, closing_skeleton, decision_of}
 use Rattle.txn_model.specs.Deadlines.{txn}
 use Rattle.txn_core.specs.declared.step.CoreRow.{CoreRow}
@@ -20,9 +21,9 @@ use Rattle.txn_board.specs.declared.words.RowStep.TheVariants as turn
 use Rattle.txn_board.specs.declared.words.Word.{Word}
 use Rattle.txn_board.specs.Seen.{decision_by}
 use Rattle.std.specs.List.{list_any, list_all}
-use Rattle.txn_board.specs.Words.{window, IsIn, is_in, word_at, mark_of, is_bit_set, sets}
+use Rattle.txn_board.specs.Words.{window, IsIn, is_in, word_at, own_place, mark_of, is_bit_set, sets, teller}
 use Rattle.txn_board.specs.Rows.{parts_in, low_in, start_view, settle_view, drop_view, loaded}
-use Rattle.txn_board.specs.Rule.{Holds, AllowsTo, Found, StepsTo}
+use Rattle.txn_board.specs.Rule.{Holds, AllowsTo, Found, ShowsOn, StepsTo}
 
 -- The seat has the row of this part alone, and this entry is the first in flight.
 pub record IsSettling (part : ℕ) (e : CoreEntry) (v : View) : Type 0 where
@@ -120,14 +121,9 @@ marker_where x (Some d) = core.Marker (txn x) d ∷ []
 
 -- ---- The start of a closing.
 
--- From the part p on, of so many, the first whose bit is in the one word and not in the other.
-abbrev pub missing_from : ℕ → ℕ → ℕ → ℕ → Option ℕ
-missing_from reg done zero p = None
-missing_from reg done (suc left) p = if is_bit_set reg p && not (is_bit_set done p) then Some p else missing_from reg done left (p + 1)
-
--- The least registered part that isn't done.
+-- By a word of registered parts and one of those done, the least registered part that isn't done.
 abbrev pub first_missing : ℕ → ℕ → Option ℕ
-first_missing reg done = missing_from reg done 63 1
+first_missing reg done = find (λ p. is_bit_set reg p && not (is_bit_set done p)) (numbers_from 1 63)
 
 -- What closes x by a decision; by the one row of a seat, as that has it.
 abbrev pub closing_by : Option Decision → ℕ → List CoreEntry
@@ -151,9 +147,9 @@ pub record MayClose (n x : ℕ) (v : View) : Type 0 where
   pub first : may.row.part ≡ 0
   pub decided : decision_of may.row.row.settled (txn x) ≡ Some decision
 
--- A word of registered parts is that of the coordinator's row.
-abbrev pub IsOfRow : ℕ → ℕ → View → Type 0
-IsOfRow reg x v = (r : SeatRow) → v.rows ≡ r ∷ [] → r.part ≡ 0 → (p : ℕ) → p < 64 → is_bit_set reg p ≡ list_any (sets Registered p (txn x)) r.row.settled
+-- Of the seat's one row, a value of this word of x has the bits that the part's list tells.
+abbrev pub IsOfRow : ℕ → Word → ℕ → View → Type 0
+IsOfRow x w n v = (r : SeatRow) → v.rows ≡ r ∷ [] → (p : ℕ) → p < 64 → teller w p ≡ r.part → is_bit_set n p ≡ list_any (sets w p (txn x)) r.row.settled
 
 -- What a load of this value makes of a view: entries start, of its own; messages or a hold where the part's bit is set; a
 -- marker where there is a decision; a closing where each registered part is done. Or the first entry in flight settles, or
@@ -179,6 +175,10 @@ pub record MayStartIn (n x count : ℕ) (v : View) : Type 0 where
   pub may : MayStart n (replicate count (core.Inside (txn x))) v
   pub part : may.row.part ≢ 0
 
+-- The part of the seat may start the marker of x, whichever decision that has.
+abbrev pub MayMark : ℕ → ℕ → View → Type 0
+MayMark n x v = (d : Decision) → MayStart n (marker_where x (Some d)) v
+
 -- The transaction of what a part starts of its own lies in the window.
 abbrev pub IsOwnIn : List (List CoreEntry) → OwnStart → Type 0
 IsOwnIn lists (own.Plain count) = Unit {0}
@@ -188,10 +188,18 @@ IsOwnIn lists (own.Decide x decision) = IsIn (low_in lists) window x
 
 -- ---- What the starts tell.
 
+-- The call made one load, of whose value nothing is made, and the row changed as in this view.
+pub record Turns (made : Type 0) (lists : List (List CoreEntry)) (next before now : View) : Type 0 where
+  pub value : ℕ
+  pub view : now ≡ loaded own_place value next
+  pub found : made → Found lists own_place value before
+  pub grows : ShowsOn own_place value before.loads
+
 -- The call loaded this word of x, which showed the value n, and these entries started.
 pub record Starts (made : Type 0) (lists : List (List CoreEntry)) (x : ℕ) (w : Word) (n : ℕ) (es : List CoreEntry) (before now : View) : Type 0 where
   pub view : now ≡ loaded (word_at (low_in lists) x w) n (start_where es before)
   pub found : made → Found lists (word_at (low_in lists) x w) n before
+  pub grows : ShowsOn (word_at (low_in lists) x w) n before.loads
 
 -- By the word of registered parts, messages or a hold started where the part's bit is set in it.
 pub record StartsInside (made : Type 0) (lists : List (List CoreEntry)) (x count n : ℕ) (told : Bool) (before now : View) : Type 0 where
@@ -207,7 +215,8 @@ pub record StartsMarker (made : Type 0) (lists : List (List CoreEntry)) (x n : �
 -- where no part is missing.
 pub record StartsClosing (made : Type 0) (lists : List (List CoreEntry)) (x reg done : ℕ) (missing : Option ℕ) (before now : View) : Type 0 where
   pub looked : made → Found lists (word_at (low_in lists) x Registered) reg before
-  pub of_row : made → IsOfRow reg x before
+  pub grows : ShowsOn (word_at (low_in lists) x Registered) reg before.loads
+  pub of_row : made → IsOfRow x Registered reg before
   pub starts : Starts made lists x Done done (closing_where missing before.rows x) (loaded (word_at (low_in lists) x Registered) reg before) now
   pub least : missing ≡ first_missing reg done
 
@@ -223,6 +232,20 @@ DropsByStep lists c v = (m : MayDrop v) → StepsTo (parts_in lists) c (act.Stop
 abbrev pub StartsByStep : List (List CoreEntry) → CoreState → View → Type 0
 StartsByStep lists c v = (es : List CoreEntry) (m : MayStart (parts_in lists) es v) → MayCross c m.row.part es → StepsTo (parts_in lists) c (act.Start m.row.part es) m.row.part (start_view es v)
 
+-- A start that loads words of its transaction is a step of the core at the moment of its last load: that of messages or a
+-- hold, of a marker, of a closing.
+abbrev pub InsideByStep : Type 0 → Type 0
+InsideByStep made = (lists : List (List CoreEntry)) (x count n : ℕ) (before now : View) (k : StartsInside made lists x count n true before now) (p : made) (m : MayStartIn (parts_in lists) x count before) → IsIn (low_in lists) window x
+    → StepsTo (parts_in lists) (k.starts.found p).rule.state (act.Start m.may.row.part (replicate count (core.Inside (txn x)))) m.may.row.part now
+
+abbrev pub MarkerByStep : Type 0 → Type 0
+MarkerByStep made = (lists : List (List CoreEntry)) (x n : ℕ) (d : Decision) (before now : View) (k : StartsMarker made lists x n (Some d) before now) (p : made) (m : MayMark (parts_in lists) x before) → IsIn (low_in lists) window x
+    → StepsTo (parts_in lists) (k.starts.found p).rule.state (act.Start (m d).row.part (core.Marker (txn x) d ∷ [])) (m d).row.part now
+
+abbrev pub CloseByStep : Type 0 → Type 0
+CloseByStep made = (lists : List (List CoreEntry)) (x reg done : ℕ) (before now : View) (k : StartsClosing made lists x reg done None before now) (p : made) (m : MayClose (parts_in lists) x before) → IsIn (low_in lists) window x
+    → StepsTo (parts_in lists) (k.starts.found p).rule.state (act.Start 0 (closing_skeleton (txn x) m.decision ∷ [])) 0 now
+
 -- ---- The same, in the window and outside it.
 
 abbrev pub StartsInsideWithin : Type 0 → List (List CoreEntry) → ℕ → ℕ → Bool → View → View → Type 0
@@ -237,7 +260,3 @@ StartsClosingWithin made lists x missing before now = IsIn (low_in lists) window
 -- Where x isn't in the window, this is told, and the view is as it was.
 abbrev pub NothingOutside : List (List CoreEntry) → ℕ → Type 0 → View → View → Type 0
 NothingOutside lists x told before now = is_in (low_in lists) window x ≡ false → told × (now ≡ before)
-
--- The part of the seat may start the marker of x, whichever decision that has.
-abbrev pub MayMark : ℕ → ℕ → View → Type 0
-MayMark n x v = (d : Decision) → MayStart n (marker_where x (Some d)) v

@@ -18,12 +18,20 @@ use Rattle.txn_board.specs.declared.view.SeatRow.{SeatRow}
 use Rattle.txn_board.specs.declared.view.Load.{Load}
 use Rattle.txn_board.specs.declared.view.View.{View}
 use Rattle.txn_board.specs.Words.{window, IsIn, is_in, word_at, WordsSay, StillHolds, entries_of}
-use Rattle.txn_board.specs.Rows.{parts_in, low_in, list_in, AreSeatRows, AreApart, HasSeatRow, loaded}
+use Rattle.txn_board.specs.Rows.{parts_in, low_in, list_in, AreSeatRows, AreApart, HasSeatRow, loaded, with_loads}
 
 -- Each of these loads still holds.
 abbrev pub LoadsHold : List ℕ → List Load → Type 0
 LoadsHold words [] = Unit {0}
 LoadsHold words (l ∷ ls) = StillHolds words l.place l.value × LoadsHold words ls
+
+-- Each load that a seat's view has still holds.
+abbrev pub KeepLoads : table.State ℕ View → Type 0
+KeepLoads s = (id : ℕ) (v : View) → get_elem? s.views id ≡ some v → LoadsHold s.words v.loads
+
+-- A load of this place with this value shows every bit that one of these showed there.
+abbrev pub ShowsOn : ℕ → ℕ → List Load → Type 0
+ShowsOn place value loads = (l : Load) → Contains loads l → l.place ≡ place → (p : ℕ) → bit_at l.value p ≤ bit_at value p
 
 -- Lists that a board may be opened with: there are at most 62 beside the coordinator's; they are lawful together; and the
 -- window has each transaction that is begun, from the low watermark on.
@@ -64,7 +72,7 @@ pub record Holds (lists : List (List CoreEntry)) (s : table.State ℕ View) : Ty
   pub seated : AreSeated state owner s.views
   pub rows : (id : ℕ) (v : View) → get_elem? s.views id ≡ some v → AreSeatRows state owner id v.rows
   pub apart : (id : ℕ) (v : View) → get_elem? s.views id ≡ some v → AreApart v.rows
-  pub loads : (id : ℕ) (v : View) → get_elem? s.views id ≡ some v → LoadsHold s.words v.loads
+  pub loads : KeepLoads s
 
 -- Whatever the board is, when the word i becomes f of the value that it had, the seat's next view by that value keeps what
 -- `holds`.
@@ -80,21 +88,33 @@ pub record Found (lists : List (List CoreEntry)) (place value : ℕ) (v : View) 
   pub view : get_elem? board.views seat ≡ some v
   pub stood : slice_index board.words place ≡ value
 
--- Each of these loads in turn, from this view on, showed what stood at its place.
+-- Of each of these loads in turn, from this view on, this is so by its place, its value and the view before it.
+abbrev pub EachInTurn : (ℕ → ℕ → View → Type 0) → View → List Load → Type 0
+EachInTurn fact v [] = Unit {0}
+EachInTurn fact v (l ∷ ls) = fact l.place l.value v × EachInTurn fact (loaded l.place l.value v) ls
+
+-- Each of these loads in turn showed what stood at its place; each shows every bit that an earlier one of its place showed.
 abbrev pub AreFound : List (List CoreEntry) → View → List Load → Type 0
-AreFound lists v [] = Unit {0}
-AreFound lists v (l ∷ ls) = Found lists l.place l.value v × AreFound lists (loaded l.place l.value v) ls
+AreFound lists = EachInTurn (Found lists)
 
--- At some moment the rule held of a board, and this of the core's state.
-pub record Once (lists : List (List CoreEntry)) (fact : CoreState → Type 0) : Type 0 where
-  pub board : table.State ℕ View
-  pub rule : Holds lists board
-  pub is : fact rule.state
+abbrev pub ShowOn : View → List Load → Type 0
+ShowOn = EachInTurn (λ place value v. ShowsOn place value v.loads)
 
--- Of the transaction x this is told of the core's state: in the window it was so at a moment, where the promise is made;
--- outside it is so at every moment.
-pub record IsTold (made : Type 0) (lists : List (List CoreEntry)) (x : ℕ) (fact : CoreState → Type 0) : Type 0 where
-  pub within : made → IsIn (low_in lists) window x → Once lists fact
+-- A call brought a seat from the first view to the other by loads. At the last of them the rule held of a board where the
+-- seat had its view then, the load showed what stood at its place, and this was so of the core's state.
+pub record AtLastLoad (lists : List (List CoreEntry)) (before now : View) (fact : CoreState → Type 0) : Type 0 where
+  pub view : View
+  pub front : List Load
+  pub last : Load
+  pub from : view ≡ with_loads front before
+  pub to : now ≡ loaded last.place last.value view
+  pub found : Found lists last.place last.value view
+  pub is : fact found.rule.state
+
+-- Of the transaction x a call told this of the core's state: in the window it was so at the call's last load, where the
+-- promise is made; outside it is so at every moment.
+pub record IsTold (made : Type 0) (lists : List (List CoreEntry)) (x : ℕ) (before now : View) (fact : CoreState → Type 0) : Type 0 where
+  pub within : made → IsIn (low_in lists) window x → AtLastLoad lists before now fact
   pub outside : is_in (low_in lists) window x ≡ false → (s : table.State ℕ View) (h : Holds lists s) → fact h.state
 
 -- ---- The rule as sentences.
@@ -107,21 +127,26 @@ AtEachMoment fact = (lists : List (List CoreEntry)) (s : table.State ℕ View) (
 abbrev pub OfEachView : (List (List CoreEntry) → CoreState → View → Type 0) → Type 0
 OfEachView fact = AtEachMoment (λ lists s c. (id : ℕ) (v : View) → get_elem? s.views id ≡ some v → fact lists c v)
 
--- Of each load of a word of a transaction of the window, this is so of the value and the view that it was made with.
-abbrev pub OfEachLoad : (List (List CoreEntry) → ℕ → Word → ℕ → View → Type 0) → Type 0
-OfEachLoad fact = (lists : List (List CoreEntry)) (x : ℕ) (w : Word) (n : ℕ) (v : View) → Found lists (word_at (low_in lists) x w) n v → IsIn (low_in lists) window x → fact lists x w n v
+-- Of each load of a word of a transaction of the window, this is so of the value, of the view that it was made with, and of
+-- the core's state then.
+abbrev pub OfEachLoad : (ℕ → Word → ℕ → View → CoreState → Type 0) → Type 0
+OfEachLoad fact = (lists : List (List CoreEntry)) (x : ℕ) (w : Word) (n : ℕ) (v : View) (f : Found lists (word_at (low_in lists) x w) n v) → IsIn (low_in lists) window x → fact x w n v f.rule.state
 
 -- Of each lists that may open a board, and of words that say what they say, this is so.
 abbrev pub OpensBy : (List (List CoreEntry) → List ℕ → Type 0) → Type 0
 OpensBy fact = (lists : List (List CoreEntry)) (words : List ℕ) → CanOpenBoard lists → WordsSay (low_in lists) window words (list_in lists) → fact lists words
 
--- Each part of the core has a seat.
-abbrev pub HaveSeats : table.State ℕ View → CoreState → Type 0
-HaveSeats s c = (p : ℕ) → p < length c.rows → (id : ℕ) × HasSeat s.views id p
+-- The part of each list has a seat.
+abbrev pub HaveSeats : List (List CoreEntry) → table.State ℕ View → Type 0
+HaveSeats lists s = (p : ℕ) → p < length lists → (id : ℕ) × HasSeat s.views id p
 
--- Each row of a view is the core's row of its part.
-abbrev pub RowsAreCores : table.State ℕ View → CoreState → Type 0
-RowsAreCores s c = (id : ℕ) (v : View) (r : SeatRow) → get_elem? s.views id ≡ some v → Contains v.rows r → row_of c r.part ≡ r.row
+-- Each row of a view is the core's row of its part, which is that of a list.
+abbrev pub RowsAreCores : List (List CoreEntry) → table.State ℕ View → CoreState → Type 0
+RowsAreCores lists s c = (id : ℕ) (v : View) (r : SeatRow) → get_elem? s.views id ≡ some v → Contains v.rows r → (r.part < length lists) × (row_of c r.part ≡ r.row)
+
+-- No view has two rows of one part.
+abbrev pub RowsAreApart : table.State ℕ View → Type 0
+RowsAreApart s = (id : ℕ) (v : View) → get_elem? s.views id ≡ some v → AreApart v.rows
 
 -- No two seats have a row of one part.
 abbrev pub SeatsAreApart : table.State ℕ View → Type 0

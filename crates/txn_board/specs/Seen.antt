@@ -16,7 +16,7 @@ use Rattle.txn_board.specs.declared.words.Word.{Word}
 use Rattle.txn_board.specs.declared.words.Word.TheVariants.{Registered, Decided, Done}
 use Rattle.txn_board.specs.Words.{window, IsIn, is_in, word_at, as_bit, is_bit_set, tells}
 use Rattle.txn_board.specs.Rows.{list_in, low_in, with_loads}
-use Rattle.txn_board.specs.Rule.{Found, AreFound}
+use Rattle.txn_board.specs.Rule.{Found, AreFound, ShowsOn, ShowOn}
 
 abbrev pub place_of : Load → ℕ
 place_of l = l.place
@@ -83,18 +83,20 @@ abbrev pub looked : List (List CoreEntry) → ℕ → Word → ℕ → List Load
 looked lists x w n = if is_in (low_in lists) window x then record { place = word_at (low_in lists) x w; value = n } ∷ [] else []
 
 -- What the value of one word of x is: below the low watermark, what the lists of the opening say; past the window, nothing;
--- and in it, what stood at the place of the word.
+-- and in it, what stood at the place of the word, with every bit that the seat's earlier loads showed there.
 pub record Looked (made : Type 0) (lists : List (List CoreEntry)) (x : ℕ) (w : Word) (n : ℕ) (v : View) : Type 0 where
   pub below : x < low_in lists → (p : ℕ) → p < 64 → bit_at n p ≡ as_bit (tells (list_in lists) (txn x) w p)
   pub past : low_in lists + window ≤ x → n ≡ 0
   pub found : made → IsIn (low_in lists) window x → Found lists (word_at (low_in lists) x w) n v
+  pub grows : IsIn (low_in lists) window x → ShowsOn (word_at (low_in lists) x w) n v.loads
 
--- A call loaded just these words of x: the view has those loads more, and nothing else changed; and where the promise is
--- made, each load showed what stood at its place.
+-- A call loaded just these words of x: the view has those loads more, and nothing else changed; where the promise is made,
+-- each load showed what stood at its place; and whatever is promised, every bit that an earlier one of the seat showed there.
 pub record Reads (made : Type 0) (lists : List (List CoreEntry)) (x : ℕ) (ws : List Word) (loads : List Load) (before now : View) : Type 0 where
   pub view : now ≡ with_loads loads before
   pub places : map place_of loads ≡ word_places lists x ws
   pub found : made → AreFound lists before loads
+  pub grows : ShowOn before loads
 
 -- A status is told by the loads of the words that it takes; a decision, a registered part and the parts that are done by that
 -- of their word.

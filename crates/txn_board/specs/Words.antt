@@ -1,6 +1,6 @@
 -- How the words lie, and what they say of the settled lists. This module alone knows it: another layout replaces this one
 -- and its laws, and no other.
-use Rattle.std.specs.Prelude.{◌≡◌, ℕ, zero, suc, ◌+◌, ◌-◌, ◌*◌, ◌^◌, ◌==◌, nat_le, nat_lt, ◌&&◌, ◌<◌, ◌≤◌, Bool, false, if◌then◌else◌, List, ◌++◌, length, filter, slice_index, slice_set, Option, Some, None, is_some}
+use Rattle.std.specs.Prelude.{◌≡◌, ℕ, zero, suc, ◌+◌, ◌-◌, ◌*◌, ◌^◌, ◌==◌, nat_le, nat_lt, ◌&&◌, not, ◌<◌, ◌≤◌, Bool, false, if◌then◌else◌, List, ◌++◌, length, filter, slice_index, slice_set, Option, Some, None, is_some, find, unwrap_or}
 use Rattle.std.specs.Int.{bit_at}
 use Rattle.std.specs.Int.Bits.{bit_or}
 use Rattle.std.specs.List.{list_any}
@@ -10,6 +10,7 @@ use Rattle.txn_base.specs.declared.txn.Decision.TheVariants.{Commit, Abort}
 use Rattle.txn_base.specs.declared.core_entry.CoreEntry.{CoreEntry}
 use Rattle.txn_base.specs.declared.core_entry.CoreEntry.TheVariants as core
 use Rattle.txn_model.specs.Coord.{is_new, is_add, says_decision, says_closing, count_new}
+use Rattle.txn_model.specs.Words.{below}
 use Rattle.txn_model.specs.Topic.{marks}
 use Rattle.txn_model.specs.Skeletons.{same_txn}
 use Rattle.txn_model.specs.Deadlines.{txn}
@@ -38,6 +39,10 @@ offset Done = 2
 
 abbrev pub word_at : ℕ → ℕ → Word → ℕ
 word_at first x w = 3 * (x - first) + offset w
+
+-- Where the word stands that a call loads whose step needs none.
+abbrev pub own_place : ℕ
+own_place = 0
 
 -- ---- What the bits say.
 
@@ -137,15 +142,10 @@ entries_of x es = filter (is_of x) es
 
 -- ---- The low watermark.
 
--- The first number from k on, of so many, that isn't closed.
-abbrev pub open_from : (ℕ → Bool) → ℕ → ℕ → ℕ
-open_from is_closed zero k = k
-open_from is_closed (suc left) k = if is_closed k then open_from is_closed left (k + 1) else k
-
 -- In the log c, the transaction of this number is closed.
 abbrev pub has_closing : List CoreEntry → ℕ → Bool
 has_closing c k = list_any (closes (txn k)) c
 
 -- In the log c, the least number of a transaction that isn't closed, or their count.
 abbrev pub low_of_log : List CoreEntry → ℕ
-low_of_log c = open_from (has_closing c) (count_new c) 0
+low_of_log c = unwrap_or (find (λ k. not (has_closing c k)) (below (count_new c))) (count_new c)

@@ -7,6 +7,7 @@ ghost use Rattle.txn_board.specs.declared.view.Load.{Load};
 ghost use Rattle.txn_board.specs.declared.words.Word.TheVariants.{Registered, Decided, Done};
 ghost use Rattle.txn_board.specs.Words.{window, WordsSay};
 ghost use Rattle.txn_board.specs.Rows.{parts_in, list_in, low_in, opening_view, rest_view, dealt_view, joined_view, kept_rows, HasSeatRow, AreFrom, IsNumberOf, with_loads, spent_view};
+ghost use Rattle.txn_board.specs.Calls.{start_place};
 ghost use Rattle.txn_board.specs.Seen.{looked, Looked};
 
 use crate::fill::{WINDOW, words_of_lists};
@@ -30,21 +31,21 @@ impl Promise for Surely {
     ghost made = { Unit {0} };
 }
 
-/// The rule of the board, where the promise is made.
+/// The rule of the board, where the promise is made; and whatever is promised, that each load still holds.
 pub struct Law<T: Promise> {
     of: PhantomData<T>,
 }
 
 impl<T: Promise> TableRule<u8, View, Skeletons> for Law<T> {
-    ghost use Rattle.txn_board.specs.Rule.{Holds};
+    ghost use Rattle.txn_board.specs.Rule.{Holds, KeepLoads};
     ghost use Rattle.txn_board.specs.Rows.{opening_view};
 
-    ghost holds = { λ lists s. T.made → Holds lists s };
+    ghost holds = { λ lists s. KeepLoads s × (T.made → Holds lists s) };
 
     ghost first = { opening_view };
 }
 
-/// A plain load. Where the promise is made, its value stood at that place.
+/// A plain load. Where the promise is made, its value stood at that place; in any case it shows what earlier ones showed there.
 pub struct Looks<T: Promise, N: Naming> {
     of: PhantomData<(T, N)>,
 }
@@ -52,9 +53,9 @@ pub struct Looks<T: Promise, N: Naming> {
 impl<T: Promise, N: Naming> Play<u8, View> for Looks<T, N> {
     ghost use Rattle.std.specs.Prelude.{◌≡◌};
     ghost use Rattle.txn_board.specs.Rows.{loaded};
-    ghost use Rattle.txn_board.specs.Rule.{Found};
+    ghost use Rattle.txn_board.specs.Rule.{Found, ShowsOn};
 
-    ghost then = { λ s me n w. (w ≡ (loaded s.word n me.0, me.1)) × (T.made → Found N.lists s.word n me.0) };
+    ghost then = { λ s me n w. (w ≡ (loaded s.word n me.0, me.1)) × (T.made → Found N.lists s.word n me.0) × ShowsOn s.word n me.0.loads };
 }
 
 /// The first row of a view goes to a seat of its own.
@@ -327,5 +328,16 @@ impl<T: Promise, N: Naming> Board<T, N> {
         self.table
             .shared
             .load::<Looks<T, N>>(&mut seat.seat, (3 * at + offset_of(word)) as usize)
+    }
+
+    /// The same of a transaction of the window, whose first word has this place.
+    pub(crate) fn look_at(&self, seat: &mut BoardSeat<N>, txn: u64, word: Word, first: usize) -> u64
+        requires { start_place N.lists txn Registered ≡ Some first }
+        ensures view { seat.new ≡ with_loads (looked N.lists txn word result) seat.old }
+        ensures told { Looked T.made N.lists txn word result seat.old }
+    {
+        self.table
+            .shared
+            .load::<Looks<T, N>>(&mut seat.seat, first + offset_of(word) as usize)
     }
 }

@@ -17,9 +17,9 @@ ghost use Rattle.txn_board.specs.declared.words.Word.{Word};
 ghost use Rattle.txn_board.specs.declared.words.Word.TheVariants.{Registered, Decided, Done};
 ghost use Rattle.txn_board.specs.Words.{window, IsIn, word_at, WordsSay, tells, low_of_log};
 ghost use Rattle.txn_board.specs.Rows.{parts_in, list_in, low_in, opening_view};
-ghost use Rattle.txn_board.specs.Rule.{CanOpenBoard, Holds, Once, AtEachMoment, OfEachView, OfEachLoad, OpensBy, RowsAreCores, HaveSeats, SeatsAreApart};
+ghost use Rattle.txn_board.specs.Rule.{CanOpenBoard, Holds, AtEachMoment, OfEachView, OfEachLoad, OpensBy, RowsAreCores, HaveSeats, SeatsAreApart, RowsAreApart};
 ghost use Rattle.txn_board.specs.Rule.{IsSettledBelow, FitsWindow, LoadsStay, TwoBitsDecide, IsUnclosed};
-ghost use Rattle.txn_board.specs.Calls.{IsOfRow, SettlesByStep, DropsByStep, StartsByStep};
+ghost use Rattle.txn_board.specs.Calls.{IsOfRow, SettlesByStep, DropsByStep, StartsByStep, InsideByStep, MarkerByStep, CloseByStep};
 ghost use Rattle.txn_board.specs.Seen.{OfAnyLists, OfLawfulLogs, ToldWithin, status_told, decision_told, IsWordIn, IsStatusIn};
 
 use crate::board::Promise;
@@ -48,9 +48,10 @@ pub fn the_rule_has_a_core()
 pub fn the_rule_in_full()
     ensures words { AtEachMoment (λ lists s c. WordsSay (low_in lists) window s.words (settled_of c)) }
     ensures two_bits { AtEachMoment (λ lists s c. TwoBitsDecide lists s) }
-    ensures rows { AtEachMoment (λ lists s c. RowsAreCores s c) }
-    ensures seated { AtEachMoment (λ lists s c. HaveSeats s c) }
+    ensures rows { AtEachMoment (λ lists s c. RowsAreCores lists s c) }
+    ensures seated { AtEachMoment (λ lists s c. HaveSeats lists s) }
     ensures apart { AtEachMoment (λ lists s c. SeatsAreApart s) }
+    ensures once { AtEachMoment (λ lists s c. RowsAreApart s) }
     ensures below { AtEachMoment (λ lists s c. IsSettledBelow lists c) }
     ensures fits { AtEachMoment (λ lists s c. FitsWindow lists c) }
     ensures loads { AtEachMoment (λ lists s c. LoadsStay s) }
@@ -64,6 +65,14 @@ pub fn rows_change_by_core_steps()
     ensures start { OfEachView StartsByStep }
 {}
 
+/// A start that loads words of its transaction is a step of the core at the moment of its last load: of messages or a hold, of
+/// a marker, of a closing.
+pub fn starts_are_core_steps<T: Promise>()
+    ensures inside { InsideByStep T.made }
+    ensures marker { MarkerByStep T.made }
+    ensures close { CloseByStep T.made }
+{}
+
 /// The low watermark is the coordinator's, and a transaction that has a status and isn't closed lies in the window.
 pub fn the_watermark_is_the_coordinators()
     ensures low { (n : ℕ) (c : List CoordEntry) → CoordLawful n (coord_skeletons c) → low_of_log (coord_skeletons c) ≡ low_of c }
@@ -75,11 +84,11 @@ pub fn an_open_one_lies_in_the_window<T: Promise>()
     ensures { (lists : List (List CoreEntry)) (x : ℕ) (st : Status) → CanOpenBoard lists → IsUnclosed st → ToldWithin T.made lists x st }
 {}
 
-/// A load of a transaction's word shows what the lists say at that moment; by the word of registered parts the coordinator's
-/// row has the same.
+/// A load of a transaction's word shows what the lists say at that moment; and where that is the list of the seat's own part,
+/// what its row says.
 pub fn a_load_shows_the_lists()
-    ensures bits { OfEachLoad (λ lists x w n v. Once lists (IsWordIn x w n)) }
-    ensures row { OfEachLoad (λ lists x w n v. w ≡ Registered → IsOfRow n x v) }
+    ensures bits { OfEachLoad (λ x w n v c. IsWordIn x w n c) }
+    ensures row { OfEachLoad (λ x w n v c. IsOfRow x w n v) }
 {}
 
 /// Lists that are lawful together open a board whose words say what they say; so do empty ones.

@@ -16,8 +16,8 @@ pub use board::{
 };
 pub use board_laws::{
     a_load_shows_the_lists, an_open_one_lies_in_the_window, bits_are_what_the_lists_say,
-    lawful_lists_open_a_board, rows_change_by_core_steps, the_rule_has_a_core, the_rule_in_full,
-    the_watermark_is_the_coordinators,
+    lawful_lists_open_a_board, rows_change_by_core_steps, starts_are_core_steps,
+    the_rule_has_a_core, the_rule_in_full, the_watermark_is_the_coordinators,
 };
 pub use fill::WINDOW;
 pub use settles::Settles;

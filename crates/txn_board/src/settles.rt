@@ -5,8 +5,8 @@ ghost use Rattle.txn_model.specs.Coord.{decision_skeleton};
 ghost use Rattle.txn_model.specs.Deadlines.{txn as txn_of};
 ghost use Rattle.txn_board.specs.declared.words.Mark.{Mark};
 ghost use Rattle.txn_board.specs.Words.{window, with_mark};
-ghost use Rattle.txn_board.specs.Rows.{low_in, settle_view, drop_view, loaded};
-ghost use Rattle.txn_board.specs.Calls.{IsSettling, IsSetting, IsSettlingOwn, IsEnding, MayDrop, reg_entry, ending_mark};
+ghost use Rattle.txn_board.specs.Rows.{low_in, settle_view, drop_view};
+ghost use Rattle.txn_board.specs.Calls.{IsSettling, IsSetting, IsSettlingOwn, IsEnding, MayDrop, Turns, reg_entry, ending_mark};
 
 use crate::board::{Board, BoardSeat, Naming, Promise};
 use crate::fill::WINDOW;
@@ -61,7 +61,7 @@ impl<T: Promise, N: Naming> Board<T, N> {
     /// The first message or hold in flight settles.
     pub fn settle_own(&self, seat: &mut BoardSeat<N>)
         requires { T.made → IsSettlingOwn seat.old }
-        ensures { (n : ℕ) × (seat.new ≡ loaded 0 n (settle_view seat.old)) }
+        ensures { Turns T.made N.lists (settle_view seat.old) seat.old seat.new }
     {
         self.step::<Brand>(seat, 0, RowStep::Settle);
     }
@@ -69,7 +69,7 @@ impl<T: Promise, N: Naming> Board<T, N> {
     /// What is in flight is lost, where it isn't sure to stay.
     pub fn drop_flight(&self, seat: &mut BoardSeat<N>)
         requires { T.made → MayDrop seat.old }
-        ensures { (n : ℕ) × (seat.new ≡ loaded 0 n (drop_view seat.old)) }
+        ensures { Turns T.made N.lists (drop_view seat.old) seat.old seat.new }
     {
         self.step::<Brand>(seat, 0, RowStep::Lose);
     }

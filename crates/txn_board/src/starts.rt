@@ -3,8 +3,8 @@ ghost use Rattle.std.specs.Prelude.{◌≡◌, ◌<◌, ◌*◌, false, ℕ, Som
 ghost use Rattle.std.specs.Result.{result_err};
 ghost use Rattle.txn_board.specs.Words.{window};
 ghost use Rattle.txn_board.specs.Rows.{parts_in, loaded};
-ghost use Rattle.txn_board.specs.Rule.{Found};
-ghost use Rattle.txn_board.specs.Calls.{MayStart, MayStartIn, MayClose, IsOwnIn, own_entries, start_where, row_step};
+ghost use Rattle.txn_board.specs.Rule.{Found, ShowsOn};
+ghost use Rattle.txn_board.specs.Calls.{MayStart, MayStartIn, MayClose, IsOwnIn, Turns, own_entries, start_where, row_step};
 ghost use Rattle.txn_board.specs.Calls.{AllowsStep, start_place, bit_found, first_missing, MayMark};
 ghost use Rattle.txn_board.specs.Calls.{StartsInsideWithin, StartsMarkerWithin, StartsClosingWithin, NothingOutside};
 
@@ -31,7 +31,7 @@ impl Stepping for Brand {
     ghost next = { λ n. spent_view };
 }
 
-/// A load at which a row changes so. Where the promise is made, its value stood at that place.
+/// A load at which a row changes so, and which tells what a plain one does.
 pub struct Begins<T: Promise, N: Naming, E: Stepping> {
     of: PhantomData<(T, N, E)>,
 }
@@ -39,9 +39,9 @@ pub struct Begins<T: Promise, N: Naming, E: Stepping> {
 impl<T: Promise, N: Naming, E: Stepping> Play<u8, View> for Begins<T, N, E> {
     ghost use Rattle.std.specs.Prelude.{◌≡◌};
     ghost use Rattle.txn_board.specs.Rows.{loaded};
-    ghost use Rattle.txn_board.specs.Rule.{Found};
+    ghost use Rattle.txn_board.specs.Rule.{Found, ShowsOn};
 
-    ghost then = { λ s me n w. (w ≡ (loaded s.word n (E.next n), me.1)) × (T.made → Found N.lists s.word n me.0) };
+    ghost then = { λ s me n w. (w ≡ (loaded s.word n (E.next n), me.1)) × (T.made → Found N.lists s.word n me.0) × ShowsOn s.word n me.0.loads };
 }
 
 fn found(part: Option<u32>, word: u64) -> bool
@@ -66,6 +66,7 @@ impl<T: Promise, N: Naming> Board<T, N> {
         requires allowed { T.made → (id : ℕ) → AllowsStep N.lists id seat.old place step }
         ensures view { seat.new ≡ loaded place result (row_step step seat.old result) }
         ensures found { T.made → Found N.lists place result seat.old }
+        ensures grows { ShowsOn place result seat.old.loads }
     {
         let _ = step;
         self.table
@@ -74,7 +75,7 @@ impl<T: Promise, N: Naming> Board<T, N> {
     }
 
     /// The place of a word of a transaction, in the window.
-    fn place(&self, txn: u64, word: Word) -> Option<usize>
+    pub(crate) fn place(&self, txn: u64, word: Word) -> Option<usize>
         ensures { result ≡ start_place N.lists txn word }
     {
         if txn < self.low {
@@ -91,7 +92,7 @@ impl<T: Promise, N: Naming> Board<T, N> {
     pub fn start_own(&self, seat: &mut BoardSeat<N>, own: OwnStart)
         requires row { T.made → MayStart (parts_in N.lists) (own_entries own) seat.old }
         requires window { T.made → IsOwnIn N.lists own }
-        ensures { (n : ℕ) × (seat.new ≡ loaded 0 n (start_where (own_entries own) seat.old)) }
+        ensures { Turns T.made N.lists (start_where (own_entries own) seat.old) seat.old seat.new }
     {
         self.step::<Brand>(seat, 0, RowStep::Own { own });
     }

@@ -14,6 +14,6 @@ returns g c =
     λ p stays.
     subst (λ (k : List (List CoreEntry)). AreLawful (parts_in k) (kept_rows c.args.seat.rows stays)) b.lists_are
     (subst (λ (u : View). AreLawful (parts_in b.table.shared.key) (kept_rows u.rows stays)) c.seat.view_is
-    (closes b.table.shared.key f.0 c.seat.inside.seat.id v (f.1.0 p) f.1.1
+    (closes b.table.shared.key f.0 c.seat.inside.seat.id v (f.1.0.1 p) f.1.1
     (λ q lt. subst (λ (u : View). HasSeatRow q u.rows) (sym c.seat.view_is) (c.requires q (subst (λ (k : List (List CoreEntry)). q < length k) b.lists_are lt)))
     stays))

@@ -1,5 +1,5 @@
 use Rattle.std.proofs.Common.{sym, ◌∙◌, arith}
-use Rattle.txn_board.proofs.Seating.{deals}
+use Rattle.txn_board.proofs.Seating.{deals, deal_keeps}
 use Rattle.txn_board.proofs.board.Board.deal.Goals as goal
 
 pub split_seat-seat-requires : goal.split_seat-seat-requires
@@ -7,5 +7,5 @@ split_seat-seat-requires g c =
     let b = c.args.self.now in (
       c.seats.invariant.0 ∙ sym b.named,
       omega (arith, b.count),
-      λ s h seat p. deals b.table.shared.key c.seats.inside.seat.id c.seats.inside.seat.me.0 s (h p) seat,
+      λ s h seat. (deal_keeps c.seats.inside.seat.id c.seats.inside.seat.me.0 s h.0 seat, λ p. deals b.table.shared.key c.seats.inside.seat.id c.seats.inside.seat.me.0 s (h.1 p) seat),
     )

@@ -1,4 +1,4 @@
-use Rattle.std.proofs.Common.{rules, ◌<◌, ◌+◌, ◌-◌, ◌*◌, sym, ◌∙◌, arith}
+use Rattle.std.proofs.Common.{rules, ◌<◌, ◌+◌, ◌-◌, ◌*◌, refl, sym, ◌∙◌, arith}
 use Rattle.txn_board.specs.Rows.{loaded}
 use Rattle.txn_board.proofs.Marks.{offset_small}
 use Rattle.txn_board.proofs.Steps.{looks, guarded_found}
@@ -14,5 +14,5 @@ load-requires g c =
     let in_window : c.args.txn - b.low < 65536 = search rules in (
       c.seat.invariant.0 ∙ sym b.named,
       omega (arith, in_window, b.count, c.offset_of-2.ensures, offset_small c.args.word),
-      guarded_found g.T.Promise.made b.table.shared.key lists b.lists_are b.table.shared.table_id.slots id me place (λ n. loaded place n me.0) (λ p s h seat. looks lists s h id me.0 seat place),
+      guarded_found g.T.Promise.made b.table.shared.key lists b.lists_are b.table.shared.table_id.slots id me place (λ n. loaded place n me.0) (λ n. refl) (λ p s h seat. looks lists s h id me.0 seat place),
     )

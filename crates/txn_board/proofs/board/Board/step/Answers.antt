@@ -1,10 +1,10 @@
-use Rattle.std.proofs.Common.{◌≡◌, List, ℕ, sym, ap, ◌∙◌, subst, arith}
+use Rattle.std.proofs.Common.{◌≡◌, ◌++◌, ◌∷◌, [], List, ℕ, sym, ap, ◌∙◌, subst, arith}
 use Rattle.txn_board.specs.declared.view.View.{View}
 use Rattle.txn_board.specs.Rows.{IsNumberOf, loaded}
 use Rattle.txn_board.specs.Rule.{Holds, AllowsTo}
 use Rattle.txn_board.specs.Calls.{row_step}
 use Rattle.txn_board.proofs.Steps.{guarded_found}
-use Rattle.txn_board.proofs.Startings.{step_numbered}
+use Rattle.txn_board.proofs.Startings.{step_numbered, step_loads}
 use Rattle.txn_board.proofs.board.Board.step.Goals as goal
 
 pub load-requires : goal.load-requires
@@ -18,6 +18,7 @@ load-requires g c =
       c.seat.invariant.0 ∙ sym b.named,
       omega (arith, b.count, c.requires.place),
       guarded_found g.T.Promise.made b.table.shared.key lists b.lists_are b.table.shared.table_id.slots id me place (λ n. loaded place n (next n))
+          (λ n. ap (λ (v : View). v.loads ++ record { place = place; value = n } ∷ []) (sym (c.requires.next n)) ∙ (ap (λ ls. ls ++ record { place = place; value = n } ∷ []) (step_loads c.args.step c.args.seat.now n) ∙ ap (λ (v : View). v.loads ++ record { place = place; value = n } ∷ []) (sym c.seat.view_is)))
           (λ p. subst (λ (f : ℕ → View). AllowsTo (Holds lists) id me.0 place (λ n. n) (λ n. loaded place n (f n))) (λ i n. c.requires.next n i)
           (subst (λ (v : View). AllowsTo (Holds lists) id v place (λ n. n) (λ n. loaded place n (row_step c.args.step c.args.seat.now n))) (sym c.seat.view_is) (c.requires.allowed p id))),
     )

@@ -5,8 +5,8 @@ use Rattle.txn_board.specs.Rule.{IsTold}
 use Rattle.txn_board.specs.Seen.{status_by, IsStatusIn}
 use Rattle.txn_board.proofs.Reading.{IsStatus, not_begun, still_open, once_decided}
 use Rattle.txn_board.proofs.Telling.{told_none, told_open, told_decided}
-use Rattle.txn_board.proofs.board.Board.status.Goals as goal
-use Rattle.txn_board.proofs.board.Board.status.Goals.{else-not-commit-via-then-not-commit+else-not-abort, else-not-commit-via-else-not-commit}
+use Rattle.txn_board.proofs.board.Board.status_by_word.Goals as goal
+use Rattle.txn_board.proofs.board.Board.status_by_word.Goals.{else-not-commit-via-then-not-commit+else-not-abort, else-not-commit-via-else-not-commit}
 
 pub returns-then-not-is_bit_set-clause-told : goal.returns-then-not-is_bit_set-clause-told
 returns-then-not-is_bit_set-clause-told g c =
@@ -17,7 +17,7 @@ returns-then-not-is_bit_set-clause-told g c =
     let v = c.args.seat.now in
     let none : is_bit_set a 0 ≡ false = search rules in
     let r = not_begun made lists x a v c.look-reg.new.seat c.look-reg.ensures.told c.look-reg.ensures.view none in
-    told_none made lists x a r.0 v c.look-reg.new.seat c.look-reg.ensures.told none r.1
+    told_none made lists x a r.0 v c.look-reg.new.seat c.look-reg.ensures.told c.look-reg.ensures.view none r.1
 
 pub returns-then-not-abort-clause-told : goal.returns-then-not-abort-clause-told
 returns-then-not-abort-clause-told g c =
@@ -31,7 +31,7 @@ returns-then-not-abort-clause-told g c =
     let commit : is_bit_set b 0 ≡ false = search rules in
     let abort : is_bit_set b 1 ≡ false = search rules in
     let r = still_open made lists x a b v c.look-reg.new.seat c.look-dec.new.seat c.look-reg.ensures.told c.look-dec.ensures.told c.look-reg.ensures.view c.look-dec.ensures.view begun commit abort in
-    told_open made lists x a b r.0 v c.look-reg.new.seat c.look-dec.new.seat c.look-dec.ensures.told c.look-reg.ensures.view begun commit abort r.1
+    told_open made lists x a b r.0 v c.look-reg.new.seat c.look-dec.new.seat c.look-dec.ensures.told c.look-reg.ensures.view c.look-dec.ensures.view begun commit abort r.1
 
 pub returns-clause-read : goal.returns-clause-read
 returns-clause-read g c =
@@ -65,5 +65,5 @@ returns-clause-told g c =
     ] in
     let is : c.status_told.result ≡ status_by true (is_bit_set b 0) (is_bit_set b 1) (is_bit_set d 0) = search rules in
     let r = once_decided made lists x a b d v c.look-reg.new.seat c.look-dec.new.seat c.look-done.new.seat c.look-reg.ensures.told c.look-dec.ensures.told c.look-done.ensures.told c.look-reg.ensures.view c.look-dec.ensures.view c.look-done.ensures.view begun decided in
-    subst (λ s. IsTold made lists x (IsStatusIn x s)) (sym is)
-    (told_decided made lists x a b d r.0 v c.look-reg.new.seat c.look-dec.new.seat c.look-done.new.seat c.look-done.ensures.told c.look-reg.ensures.view c.look-dec.ensures.view begun decided r.1)
+    subst (λ s. IsTold made lists x v c.look-done.new.seat (IsStatusIn x s)) (sym is)
+    (told_decided made lists x a b d r.0 v c.look-reg.new.seat c.look-dec.new.seat c.look-done.new.seat c.look-done.ensures.told c.look-reg.ensures.view c.look-dec.ensures.view c.look-done.ensures.view begun decided r.1)
