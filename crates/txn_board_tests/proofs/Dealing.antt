@@ -15,6 +15,10 @@ pub some_rows : (lists : List (List CoreEntry)) → length lists ≡ 2 → 0 < l
 some_rows [] e = absurd (omega (arith, e))
 some_rows (a ∷ ls) e = omega arith
 
+pub any_rows : (lists : List (List CoreEntry)) → 0 < length lists → 0 < length (rows_from 0 lists)
+any_rows [] lt = absurd (omega (arith, lt))
+any_rows (a ∷ ls) lt = omega arith
+
 -- the seats of two lists are those of part 0 and of part 1
 pub first_part : (lists : List (List CoreEntry)) → length lists ≡ 2 → IsOfPart 0 (dealt_view (opening_view lists))
 first_part [] e = absurd (omega (arith, e))

@@ -3,12 +3,14 @@
 #![tactic(auto)]
 
 mod measure;
+mod openings;
 mod story;
 mod surely;
 #[cfg(test)]
 mod threads;
 
 use crate::measure::{Work, measure};
+use crate::openings::{Found, Fresh, fresh_seats, full_window, low_three, many_lists};
 use crate::story::{Told, closed_board, open_board};
 use crate::surely::sure_board;
 use std::alloc::AllocError;
@@ -65,11 +67,38 @@ fn report(rt: HostRuntime) -> Result<(), std::io::Error> {
         Ok(told) => tell(rt, "a board opened behind an aborted one", told)?,
         Err(_) => println!(rt; "a board opened behind an aborted one: no memory")?,
     }
+    tell_found(rt, "63 lists", many_lists(rt.alloc()))?;
+    tell_found(rt, "three closed below the window", low_three(rt.alloc()))?;
+    tell_found(rt, "a window of open ones", full_window(rt.alloc()))?;
+    tell_fresh(rt, "first a message", fresh_seats(rt.alloc(), true))?;
+    tell_fresh(rt, "first a marker", fresh_seats(rt.alloc(), false))?;
     match sure_board(rt.alloc()) {
         Ok(told) => println!(rt; "a decision whose conditions are shown: {:?}", told)?,
         Err(_) => println!(rt; "a decision whose conditions are shown: no memory")?,
     }
     Ok(())
+}
+
+fn tell_found(
+    rt: HostRuntime,
+    name: &str,
+    found: Result<Found, AllocError>,
+) -> Result<(), std::io::Error> {
+    match found {
+        Ok(found) => println!(rt; "{name}: {:?}", found),
+        Err(_) => println!(rt; "{name}: no memory"),
+    }
+}
+
+fn tell_fresh(
+    rt: HostRuntime,
+    name: &str,
+    fresh: Result<Fresh, AllocError>,
+) -> Result<(), std::io::Error> {
+    match fresh {
+        Ok(fresh) => println!(rt; "{name}: {:?}", fresh),
+        Err(_) => println!(rt; "{name}: no memory"),
+    }
 }
 
 fn tell(rt: HostRuntime, name: &str, told: Told) -> Result<(), std::io::Error> {

@@ -1,7 +1,7 @@
 //! What `bench/board.py` measures: so many reads of a status, or starts and settles, by each of some threads.
-ghost use Rattle.std.specs.Prelude.{◌≡◌, [], length};
+ghost use Rattle.std.specs.Prelude.{◌≡◌, length};
 
-use crate::story::{Untold, deal_parts};
+use crate::story::{Untold, deal_parts, split};
 use std::alloc::{AllocError, Global};
 use std::marker::Brand;
 use std::thread::{self, Threads};
@@ -15,14 +15,6 @@ pub struct Work {
     pub reads: bool,
     pub threads: u64,
     pub rounds: u64,
-}
-
-/// Another seat of a reader.
-fn split<N: Naming>(board: &Board<Untold, N>, seat: &mut BoardSeat<N>) -> BoardSeat<N>
-    requires { seat.old.rows ≡ [] }
-    ensures { seat.new.rows ≡ [] }
-{
-    board.split(seat)
 }
 
 /// Takes a transaction to its end, with the one part.

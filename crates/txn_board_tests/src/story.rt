@@ -107,6 +107,14 @@ pub fn deal_parts<N: Naming>(
     (coord, part)
 }
 
+/// Another seat of a reader.
+pub fn split<N: Naming>(board: &Board<Untold, N>, seat: &mut BoardSeat<N>) -> BoardSeat<N>
+    requires { seat.old.rows ≡ [] }
+    ensures { seat.new.rows ≡ [] }
+{
+    board.split(seat)
+}
+
 /// Deals the seats of a board of one part beside the coordinator, and commits a transaction.
 fn with_board<N: Naming>(opened: Opened<Untold>, txn: u64) -> Told
     requires table { opened.table.shared.table_id ≡ N.table }
