@@ -1,0 +1,114 @@
+-- The entries that were taken of a ledger, for any kind of entry.
+use Rattle.std.proofs.Common.{⊎_elim, ◌≡◌, ℕ, ◌+◌, ◌<◌, ◌≤◌, List, [], ◌∷◌, ◌++◌, length, get_or, take, map, All, refl, sym, ap, ◌∙◌, subst, arith, length-append}
+use Rattle.std.proofs.lemmas.Bool.{cases_lt}
+use Rattle.std.proofs.lemmas.List.{take_more, take_all, take-append-le, get_or_append_left, get_or-map, map-append, length-map, append-nil}
+use Rattle.std.proofs.lemmas.List.Concat.{flat_map-append}
+use Rattle.std.proofs.lemmas.List.Elements.{All-append, All-push}
+use Rattle.std.proofs.Math.Seq.{get_or-append_seam}
+use Rattle.txn_base.specs.Content.{LedgerContent, Standing, settled, looked_at, in_flight, with_flight}
+use Rattle.txn_base.specs.Frames.{Record, Batch, records}
+use Rattle.txn_replay.specs.declared.grammar.Grammar.{Ghosts}
+use Rattle.txn_replay.specs.Fronts.{record_at, entries_in, AreInGrammar, AreFirstOf, IsFrontOf, AreEntriesOf, IsBadAfter, IsFirstBad}
+use Rattle.txn_replay.specs.Settling.{MayHaveSettled}
+
+records-append : (a b : List Batch) → records (a ++ b) ≡ records a ++ records b
+records-append a b = flat_map-append (λ batch. batch) a b
+
+records-push : (batches : List Batch) (batch : Batch) → records (batches ++ batch ∷ []) ≡ records batches ++ batch
+records-push batches batch = records-append batches (batch ∷ []) ∙ ap (λ (l : List Record). records batches ++ l) (append-nil batch)
+
+module _ {S E : Type 0} (g : Ghosts S E) where
+  pub no_front : (batches : List Batch) (front : List E) → front ≡ [] → IsFrontOf g batches front
+  no_front batches front none = subst (IsFrontOf g batches) (sym none) (record { entries = refl; in_grammar = λ k d lt. absurd (omega (arith, lt)) })
+
+  module _ (batches : List Batch) (front more : List E) (bytes : Record) (within : length front < length (records batches)) (is : bytes ≡ record_at batches (length front))
+      (good : g.is_record bytes (g.entry_of bytes)) (added : more ≡ front ++ g.entry_of bytes ∷ []) where
+    longer : length more ≡ length front + 1
+    longer = omega (arith, ap length added, length-append front (g.entry_of bytes ∷ []))
+
+    -- with the next record
+    pub first_more : AreFirstOf g batches front → AreFirstOf g batches more
+    first_more was =
+        let rs = records batches in let n = length front in
+        let next : get_or (entries_in g batches) n (g.entry_of bytes) ≡ g.entry_of bytes = get_or-map g.entry_of rs n [] (g.entry_of bytes) within ∙ ap g.entry_of (sym is) in
+        added ∙ ap (λ (l : List E). l ++ g.entry_of bytes ∷ []) was ∙ ap (λ (x : E). take n (entries_in g batches) ++ x ∷ []) (sym next)
+        ∙ sym (take_more (entries_in g batches) n (g.entry_of bytes) (omega (arith, within, length-map rs g.entry_of))) ∙ ap (λ k. take k (entries_in g batches)) (sym longer)
+
+    pub front_more : IsFrontOf g batches front → IsFrontOf g batches more
+    front_more was =
+        let rs = records batches in let n = length front in
+        record {
+          entries = first_more was.entries;
+          in_grammar =
+              subst (All (λ r. g.is_record r (g.entry_of r))) (sym (ap (λ k. take k rs) longer ∙ take_more rs n [] within))
+              (All-push (λ r. g.is_record r (g.entry_of r)) (take n rs) (get_or rs n []) was.in_grammar (subst (λ r. g.is_record r (g.entry_of r)) is good));
+        }
+
+    -- the same of those from a place on
+    pub entries_more : (from : ℕ) → AreEntriesOf g batches from front → AreEntriesOf g batches from more
+    entries_more from are = λ k d le lt. ⊎_elim
+        (λ before. subst (λ (l : List E). g.is_record (record_at batches k) (get_or l k d)) (sym added)
+        (subst (g.is_record (record_at batches k)) (sym (get_or_append_left front (g.entry_of bytes ∷ []) d k before)) (are k d le before)))
+        (λ past.
+        let i : k ≡ length front = omega (arith, past, lt, longer) in
+        subst (λ (j : ℕ). g.is_record (record_at batches j) (get_or more j d)) (sym i)
+        (subst (λ (l : List E). g.is_record (record_at batches (length front)) (get_or l (length front) d)) (sym added)
+        (subst (g.is_record (record_at batches (length front))) (sym (get_or-append_seam front (g.entry_of bytes) [] d)) (subst (λ r. g.is_record r (g.entry_of bytes)) is good))))
+        (cases_lt k (length front))
+
+  -- a bad record behind them is the first one
+  pub first_bad_at : (rule : ℕ) (batches : List Batch) (front : List E) (bytes : Record) (place : ℕ) → length front ≡ place → place < length (records batches) → bytes ≡ record_at batches place
+      → g.lawful rule front → IsFrontOf g batches front → IsBadAfter g rule front bytes → IsFirstBad g rule batches place
+  first_bad_at rule batches front bytes place at within is lawful was bad =
+      let are : front ≡ take place (entries_in g batches) = was.entries ∙ ap (λ n. take n (entries_in g batches)) at in
+      record {
+        within = within;
+        in_grammar = subst (AreInGrammar g batches) at was.in_grammar;
+        before = subst (g.lawful rule) are lawful;
+        bad = subst (λ (l : List E). IsBadAfter g rule l (record_at batches place)) are (subst (IsBadAfter g rule front) is bad);
+      }
+
+  -- with all records of a batch, where they were all
+  pub front_batch : (before after : List Batch) (batch : Batch) (front more : List E) → length front ≡ length (records before) → after ≡ before ++ batch ∷ [] → more ≡ front ++ map g.entry_of batch
+      → All (λ r. g.is_record r (g.entry_of r)) batch → IsFrontOf g before front → IsFrontOf g after more
+  front_batch before after batch front more whole grown added good was =
+      let rs = records before in
+      let log : records after ≡ rs ++ batch = ap records grown ∙ records-push before batch in
+      let are : front ≡ entries_in g before = was.entries ∙ take_all (length front) (entries_in g before) (omega (arith, whole, length-map rs g.entry_of)) in
+      let now : more ≡ entries_in g after =
+      added ∙ ap (λ (l : List E). l ++ map g.entry_of batch) are ∙ sym (map-append g.entry_of rs batch) ∙ ap (map g.entry_of) (sym log) in
+      let long : length more ≡ length (records after) = ap length now ∙ length-map (records after) g.entry_of in
+      let first : take (length front) rs ≡ rs = take_all (length front) rs (omega (arith, whole)) in
+      record {
+        entries = now ∙ sym (take_all (length more) (entries_in g after) (omega (arith, long, length-map (records after) g.entry_of)));
+        in_grammar =
+            subst (All (λ r. g.is_record r (g.entry_of r))) (sym (take_all (length more) (records after) (omega (arith, long)) ∙ log))
+            (All-append (λ r. g.is_record r (g.entry_of r)) rs batch (subst (All (λ r. g.is_record r (g.entry_of r))) first was.in_grammar) good);
+      }
+
+  -- with batches behind
+  front_longer : (before after more : List Batch) (front : List E) → length front ≤ length (records before) → after ≡ before ++ more → IsFrontOf g before front → IsFrontOf g after front
+  front_longer before after more front within grown was =
+      let n = length front in let rs = records before in
+      let log : records after ≡ rs ++ records more = ap records grown ∙ records-append before more in
+      let same : take n (records after) ≡ take n rs = ap (take n) log ∙ take-append-le n rs (records more) within in
+      let entries : take n (entries_in g after) ≡ take n (entries_in g before) =
+      ap (λ l. take n (map g.entry_of l)) log ∙ ap (take n) (map-append g.entry_of rs (records more)) ∙ take-append-le n (entries_in g before) (map g.entry_of (records more)) (omega (arith, within, length-map rs g.entry_of)) in
+      record {
+        entries = was.entries ∙ sym entries;
+        in_grammar = subst (All (λ r. g.is_record r (g.entry_of r))) (sym same) was.in_grammar;
+      }
+
+  -- once what was in flight was settled
+  pub front_settled : (before after : LedgerContent) (front : List E) → length front ≤ length (records before.batches) → MayHaveSettled before after
+      → IsFrontOf g before.batches front → IsFrontOf g after.batches front
+  front_settled before after front within how was = ⊎_elim (λ same. stays (ap (λ (l : LedgerContent). l.batches) same))
+      (λ flight. ⊎_elim (λ is_kept. kept_is before.standing (ap (λ (l : LedgerContent). l.batches) is_kept)) (λ is_dropped. stays (ap (λ (l : LedgerContent). l.batches) is_dropped)) flight.1) how
+    where
+      stays : after.batches ≡ before.batches → IsFrontOf g after.batches front
+      stays same = subst (λ (l : List Batch). IsFrontOf g l front) (sym same) was
+
+      kept_is : (standing : Standing) → after.batches ≡ with_flight before.batches standing → IsFrontOf g after.batches front
+      kept_is settled same = stays same
+      kept_is looked_at same = stays same
+      kept_is (in_flight batch) same = front_longer before.batches after.batches (batch ∷ []) front within same was
