@@ -8,7 +8,7 @@ use Rattle.std.proofs.Math.Seq.{get_or-append_seam}
 use Rattle.txn_base.specs.Content.{LedgerContent, Standing, settled, looked_at, in_flight, with_flight}
 use Rattle.txn_base.specs.Frames.{Record, Batch, records}
 use Rattle.txn_replay.specs.declared.grammar.Grammar.{Ghosts}
-use Rattle.txn_replay.specs.Fronts.{record_at, entries_in, AreInGrammar, AreFirstOf, IsFrontOf, AreEntriesOf, IsBadAfter, IsFirstBad}
+use Rattle.txn_replay.specs.Fronts.{record_at, entries_in, AreGrammatical, AreFirstOf, AreTakenFrom, AreEntriesOf, IsBadAfter, IsFirstBad, Takes}
 use Rattle.txn_replay.specs.Settling.{MayHaveSettled}
 
 records-append : (a b : List Batch) → records (a ++ b) ≡ records a ++ records b
@@ -18,8 +18,8 @@ records-push : (batches : List Batch) (batch : Batch) → records (batches ++ ba
 records-push batches batch = records-append batches (batch ∷ []) ∙ ap (λ (l : List Record). records batches ++ l) (append-nil batch)
 
 module _ {S E : Type 0} (g : Ghosts S E) where
-  pub no_front : (batches : List Batch) (front : List E) → front ≡ [] → IsFrontOf g batches front
-  no_front batches front none = subst (IsFrontOf g batches) (sym none) (record { entries = refl; in_grammar = λ k d lt. absurd (omega (arith, lt)) })
+  pub no_front : (batches : List Batch) (front : List E) → front ≡ [] → AreTakenFrom g batches front
+  no_front batches front none = subst (AreTakenFrom g batches) (sym none) (record { entries = refl; in_grammar = λ k d lt. absurd (omega (arith, lt)) })
 
   module _ (batches : List Batch) (front more : List E) (bytes : Record) (within : length front < length (records batches)) (is : bytes ≡ record_at batches (length front))
       (good : g.is_record bytes (g.entry_of bytes)) (added : more ≡ front ++ g.entry_of bytes ∷ []) where
@@ -34,7 +34,7 @@ module _ {S E : Type 0} (g : Ghosts S E) where
         added ∙ ap (λ (l : List E). l ++ g.entry_of bytes ∷ []) was ∙ ap (λ (x : E). take n (entries_in g batches) ++ x ∷ []) (sym next)
         ∙ sym (take_more (entries_in g batches) n (g.entry_of bytes) (omega (arith, within, length-map rs g.entry_of))) ∙ ap (λ k. take k (entries_in g batches)) (sym longer)
 
-    pub front_more : IsFrontOf g batches front → IsFrontOf g batches more
+    pub front_more : AreTakenFrom g batches front → AreTakenFrom g batches more
     front_more was =
         let rs = records batches in let n = length front in
         record {
@@ -56,21 +56,31 @@ module _ {S E : Type 0} (g : Ghosts S E) where
         (subst (g.is_record (record_at batches (length front))) (sym (get_or-append_seam front (g.entry_of bytes) [] d)) (subst (λ r. g.is_record r (g.entry_of bytes)) is good))))
         (cases_lt k (length front))
 
+  -- nothing was taken
+  pub takes_none : (rule : ℕ) (tells : Type 0) (batches : List Batch) (before after : List E) → after ≡ before → g.lawful rule before → Takes g rule tells batches before after
+  takes_none rule tells batches before after same lawful = subst (Takes g rule tells batches before) (sym same) (record {
+    extends = sym (take_all (length before) before (omega arith));
+    lawful = lawful;
+    read = λ told k e le lt. absurd (omega (arith, le, lt));
+    first = λ told was. was;
+    taken = λ told was. was;
+  })
+
   -- a bad record behind them is the first one
   pub first_bad_at : (rule : ℕ) (batches : List Batch) (front : List E) (bytes : Record) (place : ℕ) → length front ≡ place → place < length (records batches) → bytes ≡ record_at batches place
-      → g.lawful rule front → IsFrontOf g batches front → IsBadAfter g rule front bytes → IsFirstBad g rule batches place
+      → g.lawful rule front → AreTakenFrom g batches front → IsBadAfter g rule front bytes → IsFirstBad g rule batches place
   first_bad_at rule batches front bytes place at within is lawful was bad =
       let are : front ≡ take place (entries_in g batches) = was.entries ∙ ap (λ n. take n (entries_in g batches)) at in
       record {
         within = within;
-        in_grammar = subst (AreInGrammar g batches) at was.in_grammar;
+        in_grammar = subst (AreGrammatical g batches) at was.in_grammar;
         before = subst (g.lawful rule) are lawful;
         bad = subst (λ (l : List E). IsBadAfter g rule l (record_at batches place)) are (subst (IsBadAfter g rule front) is bad);
       }
 
   -- with all records of a batch, where they were all
   pub front_batch : (before after : List Batch) (batch : Batch) (front more : List E) → length front ≡ length (records before) → after ≡ before ++ batch ∷ [] → more ≡ front ++ map g.entry_of batch
-      → All (λ r. g.is_record r (g.entry_of r)) batch → IsFrontOf g before front → IsFrontOf g after more
+      → All (λ r. g.is_record r (g.entry_of r)) batch → AreTakenFrom g before front → AreTakenFrom g after more
   front_batch before after batch front more whole grown added good was =
       let rs = records before in
       let log : records after ≡ rs ++ batch = ap records grown ∙ records-push before batch in
@@ -87,7 +97,7 @@ module _ {S E : Type 0} (g : Ghosts S E) where
       }
 
   -- with batches behind
-  front_longer : (before after more : List Batch) (front : List E) → length front ≤ length (records before) → after ≡ before ++ more → IsFrontOf g before front → IsFrontOf g after front
+  front_longer : (before after more : List Batch) (front : List E) → length front ≤ length (records before) → after ≡ before ++ more → AreTakenFrom g before front → AreTakenFrom g after front
   front_longer before after more front within grown was =
       let n = length front in let rs = records before in
       let log : records after ≡ rs ++ records more = ap records grown ∙ records-append before more in
@@ -101,14 +111,14 @@ module _ {S E : Type 0} (g : Ghosts S E) where
 
   -- once what was in flight was settled
   pub front_settled : (before after : LedgerContent) (front : List E) → length front ≤ length (records before.batches) → MayHaveSettled before after
-      → IsFrontOf g before.batches front → IsFrontOf g after.batches front
+      → AreTakenFrom g before.batches front → AreTakenFrom g after.batches front
   front_settled before after front within how was = ⊎_elim (λ same. stays (ap (λ (l : LedgerContent). l.batches) same))
       (λ flight. ⊎_elim (λ is_kept. kept_is before.standing (ap (λ (l : LedgerContent). l.batches) is_kept)) (λ is_dropped. stays (ap (λ (l : LedgerContent). l.batches) is_dropped)) flight.1) how
     where
-      stays : after.batches ≡ before.batches → IsFrontOf g after.batches front
-      stays same = subst (λ (l : List Batch). IsFrontOf g l front) (sym same) was
+      stays : after.batches ≡ before.batches → AreTakenFrom g after.batches front
+      stays same = subst (λ (l : List Batch). AreTakenFrom g l front) (sym same) was
 
-      kept_is : (standing : Standing) → after.batches ≡ with_flight before.batches standing → IsFrontOf g after.batches front
+      kept_is : (standing : Standing) → after.batches ≡ with_flight before.batches standing → AreTakenFrom g after.batches front
       kept_is settled same = stays same
       kept_is looked_at same = stays same
       kept_is (in_flight batch) same = front_longer before.batches after.batches (batch ∷ []) front within same was

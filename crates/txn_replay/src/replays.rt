@@ -1,10 +1,9 @@
 //! A state that takes the records of a log, one after another.
 ghost use Rattle.std.specs.Prelude.{◌≡◌, ◌≤◌, ◌<◌, ◌+◌, ◌^◌, ◌++◌, [], ◌∷◌, ℕ, true, false, Ok, Err, length, take, max, IfOk, OnOk, OnErr};
-ghost use Rattle.txn_base.specs.Disk.{Same};
 ghost use Rattle.txn_base.specs.Frames.{records};
-ghost use Rattle.txn_base.specs.Moves.{After, FaultsIn};
 ghost use Rattle.txn_ledger.specs.Reading.{ReadsOn};
-ghost use Rattle.txn_replay.specs.Fronts.{AreEntriesOf, AreFirstOf, IsFrontOf, IsFirstBad};
+ghost use Rattle.txn_replay.specs.Fronts.{Takes, IsDamage};
+ghost use Rattle.txn_replay.specs.Reading.{ReadsFor};
 
 use crate::grammar::Grammar;
 use std::alloc::AllocError;
@@ -34,10 +33,15 @@ pub trait Replays: Grammar {
     fn take(&mut self, bytes: &Bytes) -> Result<bool, AllocError>
         requires few { length (front self.old) + 1 < 2 ^ 64 }
         requires lawful { Self.lawful (rule self.old) (front self.old) }
-        ensures taken { result ≡ Ok true → front self.new ≡ front self.old ++ Self.entry_of bytes.now.bytes ∷ [] }
-        ensures grammar { result ≡ Ok true → Self.is_record bytes.now.bytes (Self.entry_of bytes.now.bytes) }
-        ensures allowed { result ≡ Ok true → Self.allows (rule self.old) (front self.old) (Self.entry_of bytes.now.bytes) ≡ true }
-        ensures bad { result ≡ Ok false → ((e : Self.Entry) → Self.is_record bytes.now.bytes e → ⊥) ⊎ (Self.allows (rule self.old) (front self.old) (Self.entry_of bytes.now.bytes) ≡ false) }
+        ensures taken { result ≡ Ok true →
+            front self.new ≡ front self.old ++ Self.entry_of bytes.now.bytes ∷ [] }
+        ensures grammar { result ≡ Ok true →
+            Self.is_record bytes.now.bytes (Self.entry_of bytes.now.bytes) }
+        ensures allowed { result ≡ Ok true →
+            Self.allows (rule self.old) (front self.old) (Self.entry_of bytes.now.bytes) ≡ true }
+        ensures bad { result ≡ Ok false →
+            ((e : Self.Entry) → Self.is_record bytes.now.bytes e → ⊥) ⊎
+            (Self.allows (rule self.old) (front self.old) (Self.entry_of bytes.now.bytes) ≡ false) }
         ensures same { result ≡ Ok false → front self.new ≡ front self.old }
         ensures err { OnErr result (front self.new ≡ front self.old) }
         ensures rule { rule self.new ≡ rule self.old }
@@ -53,27 +57,21 @@ pub fn replay_to<R: RecordLog, S: Replays, D: Disk, L: ledger::Ledger>(
     end: u64,
     steps: &mut Steps<L>,
 ) -> Result<(), MendError>
-    requires order { from ≤ end }
-    requires within { end ≤ length (records (R.content log.now).batches) }
+    requires range { (from ≤ end) × (end ≤ length (records (R.content log.now).batches)) }
     requires behind { from ≤ length (S.front state.old) }
     requires lawful { S.lawful (S.rule state.old) (S.front state.old) }
     requires reads { ReadsOn R.RecordLog D.Disk disk.old (R.content log.now) }
-    ensures grown { OnOk result (length (S.front state.new) ≡ max (length (S.front state.old)) end) }
-    ensures most { length (S.front state.new) ≤ max (length (S.front state.old)) end }
-    ensures extends { S.front state.old ≡ take (length (S.front state.old)) (S.front state.new) }
-    ensures read { D.tells → AreEntriesOf S.Grammar (R.content log.now).batches (length (S.front state.old)) (S.front state.new) }
-    ensures first { D.tells → AreFirstOf S.Grammar (R.content log.now).batches (S.front state.old) → AreFirstOf S.Grammar (R.content log.now).batches (S.front state.new) }
-    ensures tied { D.tells → IsFrontOf S.Grammar (R.content log.now).batches (S.front state.old) → IsFrontOf S.Grammar (R.content log.now).batches (S.front state.new) }
-    ensures lawful { S.lawful (S.rule state.new) (S.front state.new) }
-    ensures damaged { (place : ℕ) → result ≡ Err (MendError.Damaged place) → (from ≤ place) × (place < end) }
-    ensures first_bad { (place : ℕ) → result ≡ Err (MendError.Damaged place) → D.tells → IsFrontOf S.Grammar (R.content log.now).batches (S.front state.old) → IsFirstBad S.Grammar (S.rule state.old) (R.content log.now).batches place }
-    ensures rule { S.rule state.new ≡ S.rule state.old }
-    ensures own { S.own state.new ≡ S.own state.old }
+    ensures grown { OnOk result
+        (length (S.front state.new) ≡ max (length (S.front state.old)) end) }
+    ensures taken { Takes S.Grammar (S.rule state.old) D.tells (R.content log.now).batches
+        (S.front state.old) (S.front state.new) }
+    ensures damaged { (place : ℕ) → result ≡ Err (MendError.Damaged place) →
+        IsDamage S.Grammar (S.rule state.old) D.tells (R.content log.now).batches
+        (S.front state.old) from end place }
+    ensures same { (S.rule state.new ≡ S.rule state.old) × (S.own state.new ≡ S.own state.old) }
     ensures counted { OnOk result (steps.new + from ≡ steps.old + end) }
     ensures few { steps.new + from ≤ steps.old + end }
-    ensures seen { D.seen disk.new ≡ D.seen disk.old }
-    ensures images { After D.Disk Same disk.old disk.new }
-    ensures cause { FaultsIn D.Disk (R.content log.now).key.part disk.old disk.new (result ≡ Err MendError.Fault) }
+    ensures reads { ReadsFor D.Disk (R.content log.now) disk.old disk.new result }
 {
     for place in from..end {
         let bytes = match log.get(disk, place, steps) {

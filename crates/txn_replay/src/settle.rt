@@ -17,11 +17,13 @@ pub fn settle_log<D: Disk, R: RecordLog>(log: &mut R, disk: &mut D) -> Result<()
     ensures ok { OnOk result ((R.content log.new).standing ≡ settled) }
     ensures err { OnErr result (R.content log.new ≡ R.content log.old) }
     ensures content { MayHaveSettled (R.content log.old) (R.content log.new) }
-    ensures found { D.tells → OnOk result (R.stands (R.content log.old).key (D.seen disk.old) (R.content log.new).batches) }
+    ensures found { D.tells → OnOk result
+        (R.stands (R.content log.old).key (D.seen disk.old) (R.content log.new).batches) }
     ensures unfound { OnErr result ((R.content log.new).standing ≡ settled → ⊥) }
     ensures backed { IsBackedOn R.RecordLog D.Disk disk.new (R.content log.new) }
     ensures images { After D.Disk (Settles R.mine R.stands (R.content log.old)) disk.old disk.new }
-    ensures others { ChangesOnly (R.mine (R.content log.old).key) (D.seen disk.old) (D.seen disk.new) }
+    ensures others { ChangesOnly (R.mine (R.content log.old).key)
+        (D.seen disk.old) (D.seen disk.new) }
     ensures cause { FaultsIn D.Disk (R.content log.old).key.part disk.old disk.new (IsErr result) }
 {
     if log.is_settled() {

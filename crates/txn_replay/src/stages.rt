@@ -1,10 +1,9 @@
 //! A state to which the records of a step are added together, after each of them was tested.
 ghost use Rattle.std.specs.Prelude.{◌≡◌, ◌≤◌, ◌<◌, ◌+◌, ◌-◌, ◌^◌, ◌++◌, [], ◌∷◌, ℕ, Ok, Err, length, take, min, IfOk, IfErr, IfSome, IfNone, OnOk, OnErr};
-ghost use Rattle.txn_base.specs.Disk.{Same};
 ghost use Rattle.txn_base.specs.Frames.{records};
-ghost use Rattle.txn_base.specs.Moves.{After, FaultsIn};
 ghost use Rattle.txn_ledger.specs.Reading.{ReadsOn};
-ghost use Rattle.txn_replay.specs.Fronts.{AreEntriesOf, AreFirstOf, IsFrontOf, IsFirstBad};
+ghost use Rattle.txn_replay.specs.Fronts.{Takes, IsDamage};
+ghost use Rattle.txn_replay.specs.Reading.{ReadsFor};
 
 use crate::grammar::Grammar;
 use crate::replays::{Replays, replay_to};
@@ -27,7 +26,8 @@ pub trait Stages: Grammar {
     /// Reads a record. None exactly where it is outside the grammar.
     fn read(&self, bytes: &Bytes) -> Option<Self::Entry>
         ensures some { IfSome result (λ e. e ≡ Self.entry_of bytes.now.bytes) }
-        ensures grammar { IfSome result (λ _. Self.is_record bytes.now.bytes (Self.entry_of bytes.now.bytes)) }
+        ensures grammar { IfSome result
+            (λ _. Self.is_record bytes.now.bytes (Self.entry_of bytes.now.bytes)) }
         ensures none { IfNone result ((e : Self.Entry) → Self.is_record bytes.now.bytes e → ⊥) };
 
     /// Whether an entry is allowed after its own and the staged ones.
@@ -117,26 +117,24 @@ pub fn replay_step<R: RecordLog, S: Stages, D: Disk, L: ledger::Ledger>(
     step: u64,
     steps: &mut Steps<L>,
 ) -> Result<(), MendError>
-    requires at { at.old ≡ length (S.front state.old) }
-    requires within { at.old ≤ length (records (R.content log.now).batches) }
+    requires at { (at.old ≡ length (S.front state.old)) ×
+        (at.old ≤ length (records (R.content log.now).batches)) }
     requires lawful { S.lawful (S.rule state.old) (S.front state.old) }
     requires reads { ReadsOn R.RecordLog D.Disk disk.old (R.content log.now) }
     ensures at { at.new ≡ length (S.front state.new) }
-    ensures grown { OnOk result (at.new ≡ min (length (records (R.content log.now).batches)) (at.old + step)) }
-    ensures extends { S.front state.old ≡ take at.old (S.front state.new) }
+    ensures grown { OnOk result
+        (at.new ≡ min (length (records (R.content log.now).batches)) (at.old + step)) }
     ensures same { OnErr result ((at.new ≡ at.old) × (S.front state.new ≡ S.front state.old)) }
-    ensures read { D.tells → AreEntriesOf S.Grammar (R.content log.now).batches at.old (S.front state.new) }
-    ensures first { D.tells → AreFirstOf S.Grammar (R.content log.now).batches (S.front state.old) → AreFirstOf S.Grammar (R.content log.now).batches (S.front state.new) }
-    ensures tied { D.tells → IsFrontOf S.Grammar (R.content log.now).batches (S.front state.old) → IsFrontOf S.Grammar (R.content log.now).batches (S.front state.new) }
-    ensures lawful { S.lawful (S.rule state.new) (S.front state.new) }
-    ensures damaged { (place : ℕ) → result ≡ Err (MendError.Damaged place) → (at.old ≤ place) × (place < min (length (records (R.content log.now).batches)) (at.old + step)) }
-    ensures first_bad { (place : ℕ) → result ≡ Err (MendError.Damaged place) → D.tells → IsFrontOf S.Grammar (R.content log.now).batches (S.front state.old) → IsFirstBad S.Grammar (S.rule state.old) (R.content log.now).batches place }
+    ensures taken { Takes S.Grammar (S.rule state.old) D.tells (R.content log.now).batches
+        (S.front state.old) (S.front state.new) }
+    ensures damaged { (place : ℕ) → result ≡ Err (MendError.Damaged place) →
+        IsDamage S.Grammar (S.rule state.old) D.tells (R.content log.now).batches
+        (S.front state.old) at.old (min (length (records (R.content log.now).batches)) (at.old + step)) place }
     ensures rule { S.rule state.new ≡ S.rule state.old }
     ensures counted { OnOk result (steps.new + at.old ≡ steps.old + at.new) }
-    ensures few { steps.new + at.old ≤ steps.old + min (length (records (R.content log.now).batches)) (at.old + step) }
-    ensures seen { D.seen disk.new ≡ D.seen disk.old }
-    ensures images { After D.Disk Same disk.old disk.new }
-    ensures cause { FaultsIn D.Disk (R.content log.now).key.part disk.old disk.new (result ≡ Err MendError.Fault) }
+    ensures few { steps.new + at.old ≤ steps.old +
+        min (length (records (R.content log.now).batches)) (at.old + step) }
+    ensures reads { ReadsFor D.Disk (R.content log.now) disk.old disk.new result }
 {
     let end = log.len().min(at.saturating_add(step));
     let staged = stage(alloc, log, state, disk, *at, end, steps)?;
@@ -157,27 +155,22 @@ pub fn replay_whole<R: RecordLog, S: Stages, D: Disk, L: ledger::Ledger>(
     step: u64,
     steps: &mut Steps<L>,
 ) -> Result<(), MendError>
-    requires at { at.old ≡ length (S.front state.old) }
-    requires within { at.old ≤ length (records (R.content log.now).batches) }
+    requires at { (at.old ≡ length (S.front state.old)) ×
+        (at.old ≤ length (records (R.content log.now).batches)) }
     requires step { 1 ≤ step }
     requires lawful { S.lawful (S.rule state.old) (S.front state.old) }
     requires reads { ReadsOn R.RecordLog D.Disk disk.old (R.content log.now) }
     ensures at { at.new ≡ length (S.front state.new) }
     ensures whole { OnOk result (at.new ≡ length (records (R.content log.now).batches)) }
     ensures within { (at.old ≤ at.new) × (at.new ≤ length (records (R.content log.now).batches)) }
-    ensures extends { S.front state.old ≡ take at.old (S.front state.new) }
-    ensures read { D.tells → AreEntriesOf S.Grammar (R.content log.now).batches at.old (S.front state.new) }
-    ensures first { D.tells → AreFirstOf S.Grammar (R.content log.now).batches (S.front state.old) → AreFirstOf S.Grammar (R.content log.now).batches (S.front state.new) }
-    ensures tied { D.tells → IsFrontOf S.Grammar (R.content log.now).batches (S.front state.old) → IsFrontOf S.Grammar (R.content log.now).batches (S.front state.new) }
-    ensures lawful { S.lawful (S.rule state.new) (S.front state.new) }
-    ensures damaged { (place : ℕ) → result ≡ Err (MendError.Damaged place) → (at.new ≤ place) × (place < length (records (R.content log.now).batches)) }
-    ensures first_bad { (place : ℕ) → result ≡ Err (MendError.Damaged place) → D.tells → IsFrontOf S.Grammar (R.content log.now).batches (S.front state.old) → IsFirstBad S.Grammar (S.rule state.old) (R.content log.now).batches place }
+    ensures taken { Takes S.Grammar (S.rule state.old) D.tells (R.content log.now).batches
+        (S.front state.old) (S.front state.new) }
+    ensures damaged { (place : ℕ) → result ≡ Err (MendError.Damaged place) →
+        IsDamage S.Grammar (S.rule state.old) D.tells (R.content log.now).batches
+        (S.front state.old) at.new (length (records (R.content log.now).batches)) place }
     ensures rule { S.rule state.new ≡ S.rule state.old }
-    ensures counted { OnOk result (steps.new + at.old ≡ steps.old + at.new) }
     ensures few { steps.new + at.old ≤ steps.old + length (records (R.content log.now).batches) }
-    ensures seen { D.seen disk.new ≡ D.seen disk.old }
-    ensures images { After D.Disk Same disk.old disk.new }
-    ensures cause { FaultsIn D.Disk (R.content log.now).key.part disk.old disk.new (result ≡ Err MendError.Fault) }
+    ensures reads { ReadsFor D.Disk (R.content log.now) disk.old disk.new result }
 {
     let total = log.len();
     while *at < total {
@@ -197,22 +190,19 @@ fn stage<R: RecordLog, S: Stages, D: Disk, L: ledger::Ledger>(
     steps: &mut Steps<L>,
 ) -> Result<Vec<S::Entry>, MendError>
     requires at { at ≡ length (S.front state.now) }
-    requires order { at ≤ end }
-    requires within { end ≤ length (records (R.content log.now).batches) }
+    requires range { (at ≤ end) × (end ≤ length (records (R.content log.now).batches)) }
     requires lawful { S.lawful (S.rule state.now) (S.front state.now) }
     requires reads { ReadsOn R.RecordLog D.Disk disk.old (R.content log.now) }
     ensures count { IfOk result (λ staged. at + length staged.items ≡ end) }
-    ensures read { D.tells → IfOk result (λ staged. AreEntriesOf S.Grammar (R.content log.now).batches at (S.front state.now ++ staged.items)) }
-    ensures first { D.tells → AreFirstOf S.Grammar (R.content log.now).batches (S.front state.now) → IfOk result (λ staged. AreFirstOf S.Grammar (R.content log.now).batches (S.front state.now ++ staged.items)) }
-    ensures tied { D.tells → IsFrontOf S.Grammar (R.content log.now).batches (S.front state.now) → IfOk result (λ staged. IsFrontOf S.Grammar (R.content log.now).batches (S.front state.now ++ staged.items)) }
-    ensures lawful { IfOk result (λ staged. S.lawful (S.rule state.now) (S.front state.now ++ staged.items)) }
-    ensures damaged { (place : ℕ) → result ≡ Err (MendError.Damaged place) → (at ≤ place) × (place < end) }
-    ensures first_bad { (place : ℕ) → result ≡ Err (MendError.Damaged place) → D.tells → IsFrontOf S.Grammar (R.content log.now).batches (S.front state.now) → IsFirstBad S.Grammar (S.rule state.now) (R.content log.now).batches place }
+    ensures taken { IfOk result (λ staged.
+        Takes S.Grammar (S.rule state.now) D.tells (R.content log.now).batches
+        (S.front state.now) (S.front state.now ++ staged.items)) }
+    ensures damaged { (place : ℕ) → result ≡ Err (MendError.Damaged place) →
+        IsDamage S.Grammar (S.rule state.now) D.tells (R.content log.now).batches
+        (S.front state.now) at end place }
     ensures counted { OnOk result (steps.new + at ≡ steps.old + end) }
     ensures few { steps.new + at ≤ steps.old + end }
-    ensures seen { D.seen disk.new ≡ D.seen disk.old }
-    ensures images { After D.Disk Same disk.old disk.new }
-    ensures cause { FaultsIn D.Disk (R.content log.now).key.part disk.old disk.new (result ≡ Err MendError.Fault) }
+    ensures reads { ReadsFor D.Disk (R.content log.now) disk.old disk.new result }
 {
     let mut step = Step {
         state,

@@ -1,17 +1,13 @@
-use Rattle.std.proofs.Common.{◌≡◌, ◌+◌, length, take, max}
+use Rattle.std.proofs.Common.{◌≡◌, ◌+◌, length, max}
 use Rattle.txn_base.specs.Disk.{Same, CountsFaults}
 use Rattle.txn_base.specs.Moves.{After, FaultsIn}
-use Rattle.txn_replay.specs.Fronts.{AreEntriesOf, AreFirstOf, IsFrontOf}
+use Rattle.txn_replay.specs.Fronts.{Takes}
 use Rattle.txn_replay.proofs.replays.replay_to.Given as goal
 
 abbrev pub invariant-loop-place : goal.invariant-loop-place
 invariant-loop-place g l = record {
   size : length (g.S.Replays.front l.state) ≡ max (length (g.S.Replays.front l.initial.state)) l.place;
-  extends : g.S.Replays.front l.initial.state ≡ take (length (g.S.Replays.front l.initial.state)) (g.S.Replays.front l.state);
-  read : g.D.Disk.tells → AreEntriesOf g.S.Grammar (g.R.RecordLog.content l.log).batches (length (g.S.Replays.front l.initial.state)) (g.S.Replays.front l.state);
-  first : g.D.Disk.tells → AreFirstOf g.S.Grammar (g.R.RecordLog.content l.log).batches (g.S.Replays.front l.initial.state) → AreFirstOf g.S.Grammar (g.R.RecordLog.content l.log).batches (g.S.Replays.front l.state);
-  tied : g.D.Disk.tells → IsFrontOf g.S.Grammar (g.R.RecordLog.content l.log).batches (g.S.Replays.front l.initial.state) → IsFrontOf g.S.Grammar (g.R.RecordLog.content l.log).batches (g.S.Replays.front l.state);
-  lawful : g.S.Grammar.lawful (g.S.Replays.rule l.state) (g.S.Replays.front l.state);
+  taken : Takes g.S.Grammar (g.S.Replays.rule l.initial.state) g.D.Disk.tells (g.R.RecordLog.content l.log).batches (g.S.Replays.front l.initial.state) (g.S.Replays.front l.state);
   rule : g.S.Replays.rule l.state ≡ g.S.Replays.rule l.initial.state;
   own : g.S.Replays.own l.state ≡ g.S.Replays.own l.initial.state;
   counted : l.steps + l.from ≡ l.initial.steps + l.place;
