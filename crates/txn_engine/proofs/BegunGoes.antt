@@ -23,33 +23,26 @@ use Rattle.txn_model.specs.LateRows.{late_refusal}
 use Rattle.txn_model.specs.Names.{part_of}
 use Rattle.txn_model.specs.Replies.{is_fault}
 use Rattle.txn_model.specs.Successes.{success_of}
-use Rattle.txn_model.specs.Table.{EntryBatch, in_coord, with_batch, with_failed_batch}
+use Rattle.txn_model.specs.Table.{TableState, EntryBatch, in_coord}
 use Rattle.txn_model.specs.World.{Lawful}
 use Rattle.txn_model.proofs.Laws.Grants.{row_granted}
 use Rattle.txn_engine.specs.Kept.{IsEngine}
 use Rattle.txn_engine.specs.Refusals.{coord_refusal, begun_reply, added_reply}
 use Rattle.txn_engine.specs.Table.{world_of, table_of}
 use Rattle.txn_engine.specs.Told.{EngineGoesOn}
-use Rattle.txn_engine.specs.View.{EngineView, IsWhole, IsTied, IsBacked, with_coord}
+use Rattle.txn_engine.specs.View.{EngineView, IsTied, IsBacked, with_coord}
 use Rattle.txn_engine.proofs.Begun.{batch_one, not_ok}
 use Rattle.txn_engine.proofs.Coordinators.{refusal_is, not_refused}
 use Rattle.txn_engine.proofs.Going.{goes_still, coord_goes}
-use Rattle.txn_engine.proofs.Tables.{coord_follows, coord_fails}
 use Rattle.txn_engine.proofs.Rows.{early_new, begin_row, early_add, add_row}
-use Rattle.txn_engine.proofs.Whole.{whole_world, whole_table, world_is}
+use Rattle.txn_engine.proofs.Logged.{logged_table, table_is}
+use Rattle.txn_engine.proofs.Tables.{table_grown, table_failed}
 
 -- What a request that isn't refused adds is allowed.
-pub row_allowed : (v : EngineView) (is : IsEngine v) (whole : IsWhole v) (r : Request) (b : EntryBatch) → early_refusal v.limits (whole_world v) r ≡ None → late_refusal v.limits (whole_table v) r ≡ None → (success_of v.limits (whole_table v) r).adds ≡ b → IsTied v → Lawful (world_of v) → IsAllowed b (world_of v)
-row_allowed v is whole r b early late adds tied lawful =
-    let same : world_of v ≡ whole_world v = world_is v is whole tied in
-    subst (IsAllowed b) (sym same) (subst (λ (x : EntryBatch). IsAllowed x (whole_world v)) adds (row_granted v.limits (whole_table v) r (subst Lawful same lawful) early late).allowed)
-
--- the table by the coordinator that it has then
-pub table_grown : (v : EngineView) → IsEngine v → (e : CoordEntry) → IsCoordEntry e → IsTrue v.coord.whole → (c' : CoordView) (k : ℕ) → c' ≡ reserving k (with_entry v.coord e) → table_of (with_coord v c') ≡ with_batch (in_coord e) (table_of v)
-table_grown v is e fits whole c' k now = ap (λ (c : CoordView). table_of (with_coord v c)) now ∙ coord_follows v e fits (is.coord.settled_is whole) k
-
-pub table_failed : (v : EngineView) → IsEngine v → (e : CoordEntry) → IsCoordEntry e → IsTrue v.coord.whole → (c' : CoordView) → c' ≡ with_failed_entry v.coord e → table_of (with_coord v c') ≡ with_failed_batch (in_coord e) 0 (table_of v)
-table_failed v is e fits whole c' now = ap (λ (c : CoordView). table_of (with_coord v c)) now ∙ coord_fails v e fits (is.coord.settled_is whole)
+pub row_allowed : (v : EngineView) (r : Request) (b : EntryBatch) (t : TableState) → table_of v ≡ t → early_refusal v.limits t.world r ≡ None → late_refusal v.limits t r ≡ None → (success_of v.limits t r).adds ≡ b → Lawful (world_of v) → IsAllowed b (world_of v)
+row_allowed v r b t same early late adds lawful =
+    let world : world_of v ≡ t.world = ap (λ (s : TableState). s.world) same in
+    subst (IsAllowed b) (sym world) (subst (λ (x : EntryBatch). IsAllowed x t.world) adds (row_granted v.limits t r (subst Lawful world lawful) early late).allowed)
 
 pub no_fault_refusal : (e : CoordError) → (e ≡ coord_error.Fault → ⊥) → is_fault (reply.No (coord_refusal e)) ≡ true → ⊥
 no_fault_refusal coord_error.NotFound ne h = cc
@@ -67,7 +60,7 @@ fault_refusal (coord_error.Full what count) h = cc
 fault_refusal coord_error.Fault h = refl
 fault_refusal coord_error.NoMemory h = cc
 
-module _ {D : Type 0} (on : Ghosts D) (v : EngineView) (is : IsEngine v) (whole : IsWhole v) (old new : D) (backed : IsBacked (on.image old) v) where
+module _ {D : Type 0} (on : Ghosts D) (v : EngineView) (is : IsEngine v) (whole : IsTrue v.coord.whole) (old new : D) (backed : IsBacked (on.image old) v) where
   -- nothing happened
   pub still_goes : (X : Type 0) → (X → ⊥) → (c' : CoordView) → c' ≡ v.coord → new ≡ old → EngineGoesOn on X v (with_coord v c') old new
   still_goes X none c' same disk = subst (λ (d : D). EngineGoesOn on X v (with_coord v c') old d) (sym disk) (goes_still on X none v (with_coord v c') old backed refl same refl)
@@ -88,9 +81,9 @@ module _ {D : Type 0} (on : Ghosts D) (v : EngineView) (is : IsEngine v) (whole 
         by_case : (o ≡ Some e) ⊎ ((o ≡ None) × ((e ≡ coord_error.Fault) ⊎ (e ≡ coord_error.NoMemory))) → EngineGoesOn on (is_fault (reply.No (coord_refusal e)) ≡ true) v (with_coord v c') old new
         by_case (inl some) = quiet (λ f. no_fault (some ∙ ap (λ x. Some x) f))
         by_case (inr (none, inl failed)) =
-            coord_goes on v is old new backed (is_fault (reply.No (coord_refusal e)) ≡ true) (r ≡ Err coord_error.Fault) entry (with_coord v c') whole.coord fits (allowed none) refl refl
+            coord_goes on v is old new backed (is_fault (reply.No (coord_refusal e)) ≡ true) (r ≡ Err coord_error.Fault) entry (with_coord v c') whole fits (allowed none) refl refl
             (inr (subst (λ (x : CoordError). is_fault (reply.No (coord_refusal x)) ≡ true) (sym failed) refl))
-            (inr (table_failed v is entry fits whole.coord c' (fault (is_err ∙ ap (λ y. Err y) failed)))) tied here since others cause (λ x. is_err ∙ ap (λ y. Err y) failed)
+            (inr (table_failed v is entry fits whole c' (fault (is_err ∙ ap (λ y. Err y) failed)))) tied here since others cause (λ x. is_err ∙ ap (λ y. Err y) failed)
         by_case (inr (none, inr memory)) = quiet (other memory)
 
   -- ---- A transaction that is begun.
@@ -100,15 +93,15 @@ module _ {D : Type 0} (on : Ghosts D) (v : EngineView) (is : IsEngine v) (whole 
     new_entry = coord.New (next_txn v.coord) (v.latest + timeout)
 
     new_allowed : begin_refusal v.coord timeout ≡ None → IsTied v → Lawful (world_of v) → IsAllowed (in_coord new_entry) (world_of v)
-    new_allowed none = row_allowed v is whole (request.New timeout) (in_coord new_entry) (early_new v.limits v timeout ok) (begin_row v is whole timeout ok ∙ ap (option_map coord_refusal) none) refl
+    new_allowed none tied = row_allowed v (request.New timeout) (in_coord new_entry) (logged_table v) (table_is v is whole tied) (early_new v.limits v timeout ok) (begin_row v is whole timeout ok ∙ ap (option_map coord_refusal) none) refl
 
     pub begun_goes : (no_fault : begin_refusal v.coord timeout ≡ Some coord_error.Fault → ⊥) (r : Result TxnId CoordError) (c' : CoordView) → IsCoordEntry new_entry → MatchOption (begin_refusal v.coord timeout) (MayFail r) (λ x. r ≡ Err x) → OnOk r (c' ≡ with_entry v.coord new_entry)
         → (r ≡ Err coord_error.Fault → c' ≡ with_failed_entry v.coord new_entry) → IfErr r (λ e. (e ≡ coord_error.Fault → ⊥) → c' ≡ v.coord) → IfErr r (λ e. (e ≡ coord_error.Fault → ⊥) → new ≡ old) → (coordinator.IsFrontOf v.coord → coordinator.IsFrontOf c') → Stored (on.image new) c'.content
         → After on (Appends IsFile StandsIn v.coord.content (coord_batch new_entry)) old new → Elsewhere v.coord.content.key (on.seen old) (on.seen new) → FaultsIn on v.coord.content.key.part old new (r ≡ Err coord_error.Fault)
         → EngineGoesOn on (is_fault (begun_reply r) ≡ true) v (with_coord v c') old new
     begun_goes no_fault (Ok x) c' fits refused now fault same still tied here since others cause =
-        coord_goes on v is old new backed (false ≡ true) (◌≡◌ {A = Result TxnId CoordError} (Ok x) (Err coord_error.Fault)) new_entry (with_coord v c') whole.coord fits (new_allowed (not_refused (begin_refusal v.coord timeout) (Ok x) x refl refused)) refl refl
-        (inl (subst (λ (c : CoordView). IsTrue c.whole) (sym now) whole.coord)) (inl (table_grown v is new_entry fits whole.coord c' v.coord.reserved now)) tied here since others cause (λ x. cc)
+        coord_goes on v is old new backed (false ≡ true) (◌≡◌ {A = Result TxnId CoordError} (Ok x) (Err coord_error.Fault)) new_entry (with_coord v c') whole fits (new_allowed (not_refused (begin_refusal v.coord timeout) (Ok x) x refl refused)) refl refl
+        (inl (subst (λ (c : CoordView). IsTrue c.whole) (sym now) whole)) (inl (table_grown v is new_entry fits whole c' v.coord.reserved now)) tied here since others cause (λ x. cc)
     begun_goes no_fault (Err e) c' fits refused now fault same still tied here since others cause =
         error_goes (begin_refusal v.coord timeout) no_fault (Err e) refused new_entry fits new_allowed c' fault tied here since others cause e refl same still
 
@@ -119,7 +112,7 @@ module _ {D : Type 0} (on : Ghosts D) (v : EngineView) (is : IsEngine v) (whole 
     add_entry = coord.AddPart x p
 
     add_allowed : add_refusal v.coord x p ≡ None → has_part v.coord x p ≡ false → IsTied v → Lawful (world_of v) → IsAllowed (in_coord add_entry) (world_of v)
-    add_allowed none fresh = row_allowed v is whole (request.Add x part) (in_coord add_entry) (early_add v.limits v x part p known own) (add_row v is whole x part p known ∙ ap (option_map coord_refusal) none) (batch_one v x part p known fresh)
+    add_allowed none fresh tied = row_allowed v (request.Add x part) (in_coord add_entry) (logged_table v) (table_is v is whole tied) (early_add v.limits v x part p known own) (add_row v is whole x part p known ∙ ap (option_map coord_refusal) none) (batch_one v x part p known fresh)
 
     pub added_goes : (no_fault : add_refusal v.coord x p ≡ Some coord_error.Fault → ⊥) (r : Result (Unit {0}) CoordError) (c' : CoordView) → IsCoordEntry add_entry → MatchOption (add_refusal v.coord x p) (MayFail r) (λ y. r ≡ Err y)
         → (add_refusal v.coord x p ≡ None → has_part v.coord x p ≡ true → IsOk r) → (has_part v.coord x p ≡ true → new ≡ old) → OnOk r (c' ≡ with_part v.coord x p)
@@ -140,8 +133,8 @@ module _ {D : Type 0} (on : Ghosts D) (v : EngineView) (is : IsEngine v) (whole 
         by_part : (b : Bool) → has_part v.coord x p ≡ b → EngineGoesOn on (false ≡ true) v (with_coord v c') old new
         by_part true has = still_goes (false ≡ true) (λ h. cc) c' (now ∙ kept has) (idle has)
         by_part false has =
-            coord_goes on v is old new backed (false ≡ true) (◌≡◌ {A = Result (Unit {0}) CoordError} (Ok u) (Err coord_error.Fault)) add_entry (with_coord v c') whole.coord fits (add_allowed none has) refl refl
-            (inl (subst (λ (c : CoordView). IsTrue c.whole) (sym (now ∙ grown has)) whole.coord)) (inl (table_grown v is add_entry fits whole.coord c' v.coord.reserved (now ∙ grown has))) tied here since others cause (λ h. cc)
+            coord_goes on v is old new backed (false ≡ true) (◌≡◌ {A = Result (Unit {0}) CoordError} (Ok u) (Err coord_error.Fault)) add_entry (with_coord v c') whole fits (add_allowed none has) refl refl
+            (inl (subst (λ (c : CoordView). IsTrue c.whole) (sym (now ∙ grown has)) whole)) (inl (table_grown v is add_entry fits whole c' v.coord.reserved (now ∙ grown has))) tied here since others cause (λ h. cc)
     added_goes no_fault (Err e) c' fits refused repeated idle now fault same still tied here since others cause =
         error_goes (add_refusal v.coord x p) no_fault (Err e) refused add_entry fits allowed c' fault tied here since others cause e refl same still
       where

@@ -21,7 +21,7 @@ use Rattle.txn_engine.specs.Causes.{first_refusal, IsByRow}
 use Rattle.txn_engine.specs.Table.{table_of}
 use Rattle.txn_engine.specs.Told.{IsAsked}
 use Rattle.txn_engine.specs.View.{EngineView, IsWhole}
-use Rattle.txn_engine.proofs.MarkLoop.{not_unrebuilt}
+use Rattle.txn_engine.proofs.Opened.{not_unrebuilt}
 
 same_row : (a b : Refusal) → reply.No a ≡ reply.No b → a ≡ b
 same_row a b e = cc

@@ -28,19 +28,18 @@ use Rattle.txn_model.specs.Topic.{marker_of}
 use Rattle.txn_model.specs.World.{Lawful, log_of, part_skeletons}
 use Rattle.txn_model.proofs.Laws.Grants.{close_allowed, closing_allowed, parts_are_named}
 use Rattle.txn_model.proofs.Laws.Logs.{Agrees, last_by, status_by, lawful_agrees}
-use Rattle.txn_engine.specs.Ending.{AreMarked}
+use Rattle.txn_engine.specs.Ending.{IsMarked, AreMarked}
 use Rattle.txn_engine.specs.Kept.{IsCoordinator, IsEngine}
 use Rattle.txn_engine.specs.Table.{table_of, world_of}
 use Rattle.txn_engine.specs.Told.{RoseFor, EngineGoesOn}
-use Rattle.txn_engine.specs.View.{EngineView, IsWhole, IsTied, IsBacked, with_coord}
-use Rattle.txn_engine.proofs.BegunGoes.{table_grown, table_failed}
-use Rattle.txn_engine.proofs.Changed.{coord_added, coord_failed}
+use Rattle.txn_engine.specs.View.{EngineView, IsTied, IsBacked, with_coord}
 use Rattle.txn_engine.proofs.Coordinators.{logged_is, failed_is, reserving_is, engine_with}
 use Rattle.txn_engine.proofs.Decided.{on_ok, by_result, from_ok}
 use Rattle.txn_engine.proofs.Going.{coord_goes}
 use Rattle.txn_engine.proofs.Marked.{on_err, from_ok_err, is_ok_of, is_err_of}
 use Rattle.txn_engine.proofs.Marks.{skeletons_at}
-use Rattle.txn_engine.proofs.Whole.{whole_world, whole_table, world_is, table_is}
+use Rattle.txn_engine.proofs.Logged.{logged_world, world_is}
+use Rattle.txn_engine.proofs.Tables.{table_grown, table_failed}
 use Rattle.txn_engine.proofs.Worlds.{some_topic}
 
 -- ---- The status of a decided transaction.
@@ -127,10 +126,10 @@ closed_at v is w view x s e =
 
 -- ---- It is closed.
 
-module _ (v : EngineView) (is : IsEngine v) (w : EngineView) (view : v ≡ w) (whole' : IsWhole w) (x : TxnId) (d : Decision) (fits : IsTxnId x) (decided' : decision_of (coord_skeletons w.coord.front) x ≡ Some d) (unclosed' : closing_of (coord_skeletons w.coord.front) x ≡ None)
+module _ (v : EngineView) (is : IsEngine v) (w : EngineView) (view : v ≡ w) (whole' : IsTrue w.coord.whole) (x : TxnId) (d : Decision) (fits : IsTxnId x) (decided' : decision_of (coord_skeletons w.coord.front) x ≡ Some d) (unclosed' : closing_of (coord_skeletons w.coord.front) x ≡ None)
     (c' : CoordView) (r : Result (Unit {0}) Failed) (ok' : OnOk r (c' ≡ reserving 0 (with_entry v.coord (closing_of_view v.coord x)))) (err' : OnErr r (c' ≡ with_failed_entry v.coord (closing_of_view v.coord x))) where
-  whole : IsWhole v
-  whole = subst IsWhole (sym view) whole'
+  whole : IsTrue v.coord.whole
+  whole = subst (λ (z : EngineView). IsTrue z.coord.whole) (sym view) whole'
 
   decided : decision_of (coord_skeletons v.coord.front) x ≡ Some d
   decided = subst (λ (z : EngineView). decision_of (coord_skeletons z.coord.front) x ≡ Some d) (sym view) decided'
@@ -165,35 +164,25 @@ module _ (v : EngineView) (is : IsEngine v) (w : EngineView) (view : v ≡ w) (w
       coord_here : IsCoordinator v.limits (length v.names) c'
       coord_here =
           by_result r (IsCoordinator v.limits (length v.names) c')
-          (λ a e. subst (IsCoordinator v.limits (length v.names)) (sym (ok_is (is_ok_of r a e))) (reserving_is v.limits (length v.names) 0 (with_entry v.coord (closing_entry x d)) (logged_is v.limits (length v.names) v.coord (closing_entry x d) is.coord whole.coord allowed_entry)))
+          (λ a e. subst (IsCoordinator v.limits (length v.names)) (sym (ok_is (is_ok_of r a e))) (reserving_is v.limits (length v.names) 0 (with_entry v.coord (closing_entry x d)) (logged_is v.limits (length v.names) v.coord (closing_entry x d) is.coord whole allowed_entry)))
           (λ y e. subst (IsCoordinator v.limits (length v.names)) (sym (err_is (is_err_of r y e))) (failed_is v.limits (length v.names) v.coord (closing_entry x d) is.coord))
 
   whole_after : IsTrue c'.whole ⊎ IsErr r
-  whole_after = by_result r (IsTrue c'.whole ⊎ IsErr r) (λ a e. inl (subst (λ (c : CoordView). IsTrue c.whole) (sym (ok_is (is_ok_of r a e))) whole.coord)) (λ y e. inr (is_err_of r y e))
+  whole_after = by_result r (IsTrue c'.whole ⊎ IsErr r) (λ a e. inl (subst (λ (c : CoordView). IsTrue c.whole) (sym (ok_is (is_ok_of r a e))) whole)) (λ y e. inr (is_err_of r y e))
 
   table_after : (table_of u ≡ with_batch (in_coord (closing_entry x d)) (table_of v)) ⊎ (table_of u ≡ with_failed_batch (in_coord (closing_entry x d)) 0 (table_of v))
   table_after =
       by_result r ((table_of u ≡ with_batch (in_coord (closing_entry x d)) (table_of v)) ⊎ (table_of u ≡ with_failed_batch (in_coord (closing_entry x d)) 0 (table_of v)))
-      (λ a e. inl (table_grown v is (closing_entry x d) (closing_fits x d fits) whole.coord c' 0 (ok_is (is_ok_of r a e))))
-      (λ y e. inr (table_failed v is (closing_entry x d) (closing_fits x d fits) whole.coord c' (err_is (is_err_of r y e))))
+      (λ a e. inl (table_grown v is (closing_entry x d) (closing_fits x d fits) whole c' 0 (ok_is (is_ok_of r a e))))
+      (λ y e. inr (table_failed v is (closing_entry x d) (closing_fits x d fits) whole c' (err_is (is_err_of r y e))))
 
-  module _ (tied' : IsTied w) (tie : coordinator.IsFrontOf v.coord → coordinator.IsFrontOf c') where
-    tied : IsTied v
-    tied = subst IsTied (sym view) tied'
+  pub close_ok : OnOk r (table_of u ≡ with_batch (closing_batch x d) (table_of w))
+  close_ok = on_ok r (table_of u ≡ with_batch (closing_batch x d) (table_of w)) (λ a e.
+      table_grown v is (closing_entry x d) (closing_fits x d fits) whole c' 0 (ok_is (is_ok_of r a e)) ∙ ap (λ (z : EngineView). with_batch (closing_batch x d) (table_of z)) view)
 
-    same_table : table_of w ≡ whole_table v
-    same_table = sym (ap table_of view) ∙ table_is v is whole tied
-
-    pub close_ok : OnOk r (table_of u ≡ with_batch (closing_batch x d) (table_of w))
-    close_ok = on_ok r (table_of u ≡ with_batch (closing_batch x d) (table_of w)) (λ a e.
-        let now = ok_is (is_ok_of r a e) in
-        table_is u closed_engine (record { coord = subst (λ (c : CoordView). IsTrue c.whole) (sym now) whole.coord; topics = whole.topics }) (record { coord = tie tied.coord; topics = tied.topics })
-        ∙ coord_added v is whole tied (closing_entry x d) c' (ap (λ (c : CoordView). c.front) now) (ap (λ (c : CoordView). c.opened_low) now)
-        ∙ ap (with_batch (closing_batch x d)) (sym same_table))
-
-    pub close_err : OnErr r (table_of u ≡ with_failed_batch (closing_batch x d) 0 (table_of w))
-    close_err = on_err r (table_of u ≡ with_failed_batch (closing_batch x d) 0 (table_of w)) (λ e.
-        ap (λ (c : CoordView). table_of (with_coord v c)) (err_is e) ∙ coord_failed v is whole tied (closing_entry x d) (closing_fits x d fits) ∙ ap (with_failed_batch (closing_batch x d) 0) (sym same_table))
+  pub close_err : OnErr r (table_of u ≡ with_failed_batch (closing_batch x d) 0 (table_of w))
+  close_err = on_err r (table_of u ≡ with_failed_batch (closing_batch x d) 0 (table_of w)) (λ e.
+      table_failed v is (closing_entry x d) (closing_fits x d fits) whole c' (err_is e) ∙ ap (λ (z : EngineView). with_failed_batch (closing_batch x d) 0 (table_of z)) view)
 
   pub close_rose : (f g : ℕ) (fs gs : ℕ → ℕ) → HasPartCause v.coord.content.key.part f g fs gs r → OnErr r (RoseFor f g fs gs 0)
   close_rose f g fs gs cause = on_err r (RoseFor f g fs gs 0) (λ e. subst (λ (k : FileId). Rose f g × Rose (fs k.part) (gs k.part)) is.coord.key (from_ok_err r (Rose f g × Rose (fs v.coord.content.key.part) (gs v.coord.content.key.part)) e cause.failed))
@@ -204,35 +193,34 @@ module _ (v : EngineView) (is : IsEngine v) (w : EngineView) (view : v ≡ w) (w
     marked : AreMarked x v (length v.topics)
     marked = subst (λ (z : EngineView). AreMarked x z (length z.topics)) (sym view) marked'
 
-    stands : IsTied v → Lawful (world_of v) → (p : ℕ) → in_parts (log_of (whole_world v)) x p ≡ true → marker_of (part_skeletons (whole_world v) p) x ≡ Some d
+    stands : IsTied v → Lawful (world_of v) → (p : ℕ) → in_parts (log_of (logged_world v)) x p ≡ true → marker_of (part_skeletons (world_of v) p) x ≡ Some d
     stands tied lawful p has =
-        let lawful_here : Lawful (whole_world v) = subst Lawful (world_is v is whole tied) lawful in
-        let range : (1 ≤ p) × (p ≤ length v.names) = parts_are_named (whole_world v) x p lawful_here has in
+        let lawful_here : Lawful (logged_world v) = subst Lawful (world_is v is whole tied) lawful in
+        let range : (1 ≤ p) × (p ≤ length v.names) = parts_are_named (logged_world v) x p lawful_here has in
         let below : p - 1 < length v.topics = omega (arith, range.0, range.1, is.count) in
         let back : 1 + (p - 1) ≡ p = omega (arith, range.0) in
-        let there : is_some (marker_of (topic_skeletons (get_or v.topics (p - 1) (some_topic v)).front) x) ≡ true =
-        marked (p - 1) (some_topic v) below below (subst (λ (q : ℕ). in_parts (coord_skeletons v.coord.front) x q ≡ true) (sym back) has) in
-        let some : is_some (marker_of (part_skeletons (whole_world v) p) x) ≡ true =
-        subst (λ (q : ℕ). is_some (marker_of (part_skeletons (whole_world v) q) x) ≡ true) back (ap (λ s. is_some (marker_of s x)) (skeletons_at v is (p - 1) below) ∙ there) in
-        by_marker lawful_here p (marker_of (part_skeletons (whole_world v) p) x) refl some
+        let there : IsMarked x v (p - 1) = marked (p - 1) below below (subst (λ (q : ℕ). in_parts (coord_skeletons v.coord.front) x q ≡ true) (sym back) has) in
+        let some : is_some (marker_of (part_skeletons (world_of v) p) x) ≡ true =
+        subst (λ (q : ℕ). is_some (marker_of (part_skeletons (world_of v) q) x) ≡ true) back (ap (λ s. is_some (marker_of s x)) (skeletons_at v is (p - 1) below tied there.whole) ∙ there.stands (some_topic v)) in
+        by_marker lawful_here p (marker_of (part_skeletons (world_of v) p) x) refl some
       where
         never : false ≡ true → ⊥
         never h = cc
 
-        by_marker : Lawful (whole_world v) → (p : ℕ) (o : Option Decision) → marker_of (part_skeletons (whole_world v) p) x ≡ o → is_some o ≡ true → marker_of (part_skeletons (whole_world v) p) x ≡ Some d
+        by_marker : Lawful (logged_world v) → (p : ℕ) (o : Option Decision) → marker_of (part_skeletons (world_of v) p) x ≡ o → is_some o ≡ true → marker_of (part_skeletons (world_of v) p) x ≡ Some d
         by_marker lawful_here p None e some = absurd (never some)
         by_marker lawful_here p (Some k) e some = e ∙ sym (lawful_here.decided p x k e) ∙ decided
 
     allowed : IsTied v → Lawful (world_of v) → IsAllowed (in_coord (closing_entry x d)) (world_of v)
     allowed tied lawful =
-        let same : world_of v ≡ whole_world v = world_is v is whole tied in
-        subst (IsAllowed (in_coord (closing_entry x d))) (sym same) (closing_allowed (whole_world v) x d (subst Lawful same lawful) unclosed decided (stands tied lawful))
+        let same : world_of v ≡ logged_world v = world_is v is whole tied in
+        subst (IsAllowed (in_coord (closing_entry x d))) (sym same) (closing_allowed (logged_world v) x d (subst Lawful same lawful) unclosed decided (stands tied lawful))
 
     pub close_goes : {D : Type 0} (on : Ghosts D) (old new : D) → IsBacked (on.image old) w → (coordinator.IsFrontOf v.coord → coordinator.IsFrontOf c') → Stored (on.image new) c'.content
         → After on (Appends IsFile StandsIn v.coord.content (coord_batch (closing_of_view v.coord x))) old new → Elsewhere v.coord.content.key (on.seen old) (on.seen new) → FailsIn on v.coord.content.key.part old new r
         → EngineGoesOn on (IsErr r) w u old new
     close_goes on old new backed tie here since others cause =
         subst (λ (z : EngineView). EngineGoesOn on (IsErr r) z u old new) view
-        (coord_goes on v is old new (subst (IsBacked (on.image old)) (sym view) backed) (IsErr r) (IsErr r) (closing_entry x d) u whole.coord (closing_fits x d fits) allowed refl refl whole_after table_after tie here
+        (coord_goes on v is old new (subst (IsBacked (on.image old)) (sym view) backed) (IsErr r) (IsErr r) (closing_entry x d) u whole (closing_fits x d fits) allowed refl refl whole_after table_after tie here
         (subst (λ (e : CoordEntry). After on (Appends IsFile StandsIn v.coord.content (coord_batch e)) old new) entry_is since) others
         (record { later = cause.later; parts_later = cause.parts_later; failed = λ e. from_ok_err r (Rose (on.faults old) (on.faults new) × Rose (on.part_faults old v.coord.content.key.part) (on.part_faults new v.coord.content.key.part)) e cause.failed; others = cause.others }) (λ h. h))

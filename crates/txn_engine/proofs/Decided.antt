@@ -28,6 +28,7 @@ use Rattle.txn_ledger.specs.Ledger.{IsFile, StandsIn, Stored}
 use Rattle.txn_model.specs.Allowed.{IsAllowed}
 use Rattle.txn_model.specs.Answers.{Answers, AnswersAt, Ends, Succeeds, AppendFails, moved, uses}
 use Rattle.txn_model.specs.Coord.{CoordLawful, coord_allows, status_of, decision_of, closing_of, has_new, is_open, says_decision, in_parts, is_add, closed, deciding}
+use Rattle.txn_model.specs.Drive.{RebuildsAll}
 use Rattle.txn_model.specs.EarlyRows.{early_refusal}
 use Rattle.txn_model.specs.LateRows.{late_refusal, opposes}
 use Rattle.txn_model.specs.Replies.{is_fault}
@@ -43,27 +44,27 @@ use Rattle.txn_engine.specs.Kept.{IsEngine, IsCoordinator}
 use Rattle.txn_engine.specs.Refusals.{coord_refusal}
 use Rattle.txn_engine.specs.Table.{table_of, world_of}
 use Rattle.txn_engine.specs.Told.{MayTell, RoseFor, EngineGoesOn}
-use Rattle.txn_engine.specs.View.{EngineView, IsWhole, IsTied, IsBacked, with_coord}
-use Rattle.txn_engine.proofs.Begun.{short_told, row_told, error_told, coord_fails, begun_short, kept_by}
-use Rattle.txn_engine.proofs.BegunGoes.{still_goes, error_goes, fault_refusal, table_grown}
-use Rattle.txn_engine.proofs.Changed.{coord_added}
+use Rattle.txn_engine.specs.View.{EngineView, IsTied, IsBacked, with_coord}
+use Rattle.txn_engine.proofs.Begun.{short_told, error_told, coord_fails, begun_short, kept_by}
+use Rattle.txn_engine.proofs.BegunGoes.{still_goes, error_goes, fault_refusal}
 use Rattle.txn_engine.proofs.Coordinators.{not_refused, logged_is, engine_with}
 use Rattle.txn_engine.proofs.Going.{coord_goes, goes_like}
-use Rattle.txn_engine.proofs.Rows.{stays}
-use Rattle.txn_engine.proofs.Whole.{whole_world, whole_table, world_is, table_is}
+use Rattle.txn_engine.proofs.Logged.{logged_world, logged_table, world_is, table_is}
+use Rattle.txn_engine.proofs.Rows.{log_stays}
+use Rattle.txn_engine.proofs.Tables.{table_grown}
 
 -- ---- The rows.
 
 module _ (limits : Limits) (v : EngineView) (x : TxnId) where
-  pub early_end : (d : Decision) → (x.most == 0) ≡ true → early_refusal limits (whole_world v) (end_request d x) ≡ None
+  pub early_end : (d : Decision) → (x.most == 0) ≡ true → early_refusal limits (world_of v) (end_request d x) ≡ None
   early_end Commit own = rw own refl
   early_end Abort own = rw own refl
 
-  pub foreign_end : (d : Decision) → (x.most == 0) ≡ false → early_refusal limits (whole_world v) (end_request d x) ≡ Some (no.UnknownCoordinator x.most)
+  pub foreign_end : (d : Decision) → (x.most == 0) ≡ false → early_refusal limits (world_of v) (end_request d x) ≡ Some (no.UnknownCoordinator x.most)
   foreign_end Commit other = rw other refl
   foreign_end Abort other = rw other refl
 
-  late_by : (d : Decision) (s : Option Status) → status_of (coord_skeletons v.coord.front) x ≡ s → late_refusal limits (whole_table v) (end_request d x) ≡ option_map coord_refusal (decide_refusal_at s d)
+  late_by : (d : Decision) (s : Option Status) → status_of (coord_skeletons v.coord.front) x ≡ s → late_refusal limits (logged_table v) (end_request d x) ≡ option_map coord_refusal (decide_refusal_at s d)
   late_by Commit None e = rw e refl
   late_by Commit (Some Open) e = rw e refl
   late_by Commit (Some Committing) e = rw e refl
@@ -77,7 +78,7 @@ module _ (limits : Limits) (v : EngineView) (x : TxnId) where
   late_by Abort (Some Aborting) e = rw e refl
   late_by Abort (Some Aborted) e = rw e refl
 
-  pub end_row : (d : Decision) → late_refusal limits (whole_table v) (end_request d x) ≡ option_map coord_refusal (decide_refusal v.coord x d)
+  pub end_row : (d : Decision) → late_refusal limits (logged_table v) (end_request d x) ≡ option_map coord_refusal (decide_refusal v.coord x d)
   end_row d = late_by d (status_of (coord_skeletons v.coord.front) x) refl
 
   moved_end : (d : Decision) (m : ℕ) (t : TableState) → moved (end_request d x) m t ≡ t
@@ -212,13 +213,13 @@ module _ (v : CoordView) (x : TxnId) (d : Decision) where
   decided_open e = rw e refl
 
 module _ (v : EngineView) (x : TxnId) (d : Decision) where
-  batch_shut : is_open (status_in_view v.coord x) ≡ false → decision_batch (whole_table v) x d ≡ nothing
+  batch_shut : is_open (status_in_view v.coord x) ≡ false → decision_batch (logged_table v) x d ≡ nothing
   batch_shut e = rw e refl
 
-  batch_open : is_open (status_in_view v.coord x) ≡ true → decision_batch (whole_table v) x d ≡ in_coord (decision_entry x d)
+  batch_open : is_open (status_in_view v.coord x) ≡ true → decision_batch (logged_table v) x d ≡ in_coord (decision_entry x d)
   batch_open e = rw e refl
 
-module _ (v : EngineView) (is : IsEngine v) (whole : IsWhole v) (x : TxnId) (d : Decision) (fits : IsTxnId x) (result : Result Status CoordError) (c' : CoordView)
+module _ (v : EngineView) (is : IsEngine v) (whole : IsTrue v.coord.whole) (x : TxnId) (d : Decision) (fits : IsTxnId x) (result : Result Status CoordError) (c' : CoordView)
     (refused : MatchOption (decide_refusal v.coord x d) (MayFail result) (λ y. result ≡ Err y)) (repeated : decide_refusal v.coord x d ≡ None → is_open (status_in_view v.coord x) ≡ false → IsOk result)
     (now : OnOk result (c' ≡ decided v.coord x d)) (fault : result ≡ Err coord_error.Fault → c' ≡ with_failed_entry v.coord (decision_entry x d)) (same : IfErr result (λ e. (e ≡ coord_error.Fault → ⊥) → c' ≡ v.coord)) where
   abbrev pub u : EngineView
@@ -230,7 +231,7 @@ module _ (v : EngineView) (is : IsEngine v) (whole : IsWhole v) (x : TxnId) (d :
       by_test : (b : Bool) → is_open (status_in_view v.coord x) ≡ b → IsCoordinator v.limits (length v.names) c'
       by_test true still_open =
           subst (IsCoordinator v.limits (length v.names)) (sym (e ∙ decided_open v.coord x d still_open))
-          (logged_is v.limits (length v.names) v.coord (decision_entry x d) is.coord whole.coord (decision_allowed (length v.names) (coord_skeletons v.coord.front) x d still_open))
+          (logged_is v.limits (length v.names) v.coord (decision_entry x d) is.coord whole (decision_allowed (length v.names) (coord_skeletons v.coord.front) x d still_open))
       by_test false shut = subst (IsCoordinator v.limits (length v.names)) (sym (e ∙ decided_shut v.coord x d shut)) is.coord
 
   no_refusal : (s : Status) → result ≡ Ok s → decide_refusal v.coord x d ≡ None
@@ -245,22 +246,25 @@ module _ (v : EngineView) (is : IsEngine v) (whole : IsWhole v) (x : TxnId) (d :
         by_test true still_open = ap (λ (c : CoordView). decision_of (coord_skeletons c.front) x) (e ∙ decided_open v.coord x d still_open) ∙ decision_added (length v.names) v.coord.front is.coord.lawful x d still_open
         by_test false shut = ap (λ (c : CoordView). decision_of (coord_skeletons c.front) x) (e ∙ decided_shut v.coord x d shut) ∙ decision_stood (length v.names) v.coord.front is.coord.lawful x d (no_refusal s is_ok) shut
 
-    pub decided_whole : IsWhole u
-    decided_whole = record { coord = by_test (is_open (status_in_view v.coord x)) refl; topics = whole.topics }
+    decided_whole : IsTrue c'.whole
+    decided_whole = by_test (is_open (status_in_view v.coord x)) refl
       where
         by_test : (b : Bool) → is_open (status_in_view v.coord x) ≡ b → IsTrue c'.whole
-        by_test true still_open = subst (λ (c : CoordView). IsTrue c.whole) (sym (e ∙ decided_open v.coord x d still_open)) whole.coord
-        by_test false shut = subst (λ (c : CoordView). IsTrue c.whole) (sym (e ∙ decided_shut v.coord x d shut)) whole.coord
+        by_test true still_open = subst (λ (c : CoordView). IsTrue c.whole) (sym (e ∙ decided_open v.coord x d still_open)) whole
+        by_test false shut = subst (λ (c : CoordView). IsTrue c.whole) (sym (e ∙ decided_shut v.coord x d shut)) whole
 
-    pub decided_table : IsTied v → whole_table u ≡ with_batch (decision_batch (whole_table v) x d) (whole_table v)
+    pub decided_table : IsTied v → table_of u ≡ with_batch (decision_batch (table_of v) x d) (table_of v)
     decided_table tied = by_test (is_open (status_in_view v.coord x)) refl
       where
-        by_test : (b : Bool) → is_open (status_in_view v.coord x) ≡ b → whole_table u ≡ with_batch (decision_batch (whole_table v) x d) (whole_table v)
+        -- by the batch that the log tells
+        told : (b : EntryBatch) → decision_batch (logged_table v) x d ≡ b → table_of u ≡ with_batch b (table_of v) → table_of u ≡ with_batch (decision_batch (table_of v) x d) (table_of v)
+        told b is_it grown = grown ∙ ap (λ (y : EntryBatch). with_batch y (table_of v)) (sym is_it ∙ ap (λ (t : TableState). decision_batch t x d) (sym (table_is v is whole tied)))
+
+        by_test : (b : Bool) → is_open (status_in_view v.coord x) ≡ b → table_of u ≡ with_batch (decision_batch (table_of v) x d) (table_of v)
         by_test true still_open =
-            coord_added v is whole tied (decision_entry x d) c' (ap (λ (c : CoordView). c.front) (e ∙ decided_open v.coord x d still_open)) (ap (λ (c : CoordView). c.opened_low) (e ∙ decided_open v.coord x d still_open))
-            ∙ ap (λ (b : EntryBatch). with_batch b (whole_table v)) (sym (batch_open v x d still_open))
-        by_test false shut =
-            ap (λ (c : CoordView). whole_table (with_coord v c)) (e ∙ decided_shut v.coord x d shut) ∙ ap (λ (b : EntryBatch). with_batch b (whole_table v)) (sym (batch_shut v x d shut))
+            told (in_coord (decision_entry x d)) (batch_open v x d still_open)
+            (table_grown v is (decision_entry x d) (decision_fits x d fits) whole c' v.coord.reserved (e ∙ decided_open v.coord x d still_open))
+        by_test false shut = told nothing (batch_shut v x d shut) (ap (λ (c : CoordView). table_of (with_coord v c)) (e ∙ decided_shut v.coord x d shut))
 
     pub reserved_still : v.coord.reserved ≡ 1 → c'.reserved ≡ 1
     reserved_still ready = by_test (is_open (status_in_view v.coord x)) refl
@@ -302,6 +306,10 @@ module _ (v : EngineView) (is : IsEngine v) (whole : IsWhole v) (x : TxnId) (d :
     abbrev rose : ℕ → Type 0
     rose = RoseFor f g fs gs
 
+    stays_for : (d : Decision) → RebuildsAll (uses (logged_world v) (end_request d x)) (logged_table v) (logged_table v)
+    stays_for Commit = log_stays v
+    stays_for Abort = log_stays v
+
     is_open_now : (e : CoordError) → result ≡ Err e → decide_refusal v.coord x d ≡ None → (b : Bool) → is_open (status_in_view v.coord x) ≡ b → is_open (status_in_view v.coord x) ≡ true
     is_open_now e is_err none true still_open = still_open
     is_open_now e is_err none false shut = absurd (err_not_ok result e is_err (repeated none shut))
@@ -310,27 +318,23 @@ module _ (v : EngineView) (is : IsEngine v) (whole : IsWhole v) (x : TxnId) (d :
     refused_told e is_err still cause =
         short_told f g fs gs v (end_request d x) m (reply.No (coord_refusal e)) u (begun_short (Err e))
         (at_once v.limits v x d rose m (table_of v) (reply.No (coord_refusal e)) (table_of u)
-        (error_told v is whole tied v.limits rose (end_request d x) (decide_refusal v.coord x d) (early_end v.limits v x d own) (end_row v.limits v x d) (no_fault_decide (status_of (coord_skeletons v.coord.front) x) d) result refused c' e is_err still
+        (error_told v is whole tied v.limits rose (end_request d x) (early_end v.limits v x d own) (stays_for d) (decide_refusal v.coord x d) (end_row v.limits v x d) (no_fault_decide (status_of (coord_skeletons v.coord.front) x) d) result refused c' e is_err still
         (λ failed none.
-        subst (λ (y : CoordError). Answers v.limits rose (whole_table v) (end_request d x) (reply.No (coord_refusal y)) (table_of u)) (sym failed)
-        (subst (λ (c : CoordView). Answers v.limits rose (whole_table v) (end_request d x) (reply.No (coord_refusal coord_error.Fault)) (table_of (with_coord v c))) (sym (fault (is_err ∙ ap (λ y. Err y) failed)))
-        (coord_fails v is whole tied v.limits rose (end_request d x) (decision_entry x d) (decision_fits x d fits) (early_end v.limits v x d own) (end_row v.limits v x d ∙ ap (option_map coord_refusal) none)
+        subst (λ (y : CoordError). Answers v.limits rose (logged_table v) (end_request d x) (reply.No (coord_refusal y)) (table_of u)) (sym failed)
+        (subst (λ (c : CoordView). Answers v.limits rose (logged_table v) (end_request d x) (reply.No (coord_refusal coord_error.Fault)) (table_of (with_coord v c))) (sym (fault (is_err ∙ ap (λ y. Err y) failed)))
+        (coord_fails v is whole tied v.limits rose (end_request d x) (early_end v.limits v x d own) (stays_for d) (decision_entry x d) (decision_fits x d fits) (end_row v.limits v x d ∙ ap (option_map coord_refusal) none)
         (subst (λ (k : ℕ). RoseFor f g fs gs k) (ap (λ key. key.part) is.coord.key) (cause.failed (is_err ∙ ap (λ y. Err y) failed)))
-        (λ fails. end_succeeds v.limits rose (whole_table v) x d (reply.No (coord_refusal coord_error.Fault)) (table_of (with_coord v (with_failed_entry v.coord (decision_entry x d))))
-        (inr (subst (λ (b : EntryBatch). AppendFails rose b (whole_table v) (reply.No (coord_refusal coord_error.Fault)) (table_of (with_coord v (with_failed_entry v.coord (decision_entry x d))))) (sym (batch_open v x d (is_open_now e is_err none (is_open (status_in_view v.coord x)) refl))) fails))))))))
+        (λ fails. end_succeeds v.limits rose (logged_table v) x d (reply.No (coord_refusal coord_error.Fault)) (table_of (with_coord v (with_failed_entry v.coord (decision_entry x d))))
+        (inr (subst (λ (b : EntryBatch). AppendFails rose b (logged_table v) (reply.No (coord_refusal coord_error.Fault)) (table_of (with_coord v (with_failed_entry v.coord (decision_entry x d))))) (sym (batch_open v x d (is_open_now e is_err none (is_open (status_in_view v.coord x)) refl))) fails))))))))
 
     pub decided_granted : (s : Status) → result ≡ Ok s → IsGranted v.limits (table_of v) (end_request d x)
     decided_granted s is_ok =
         subst (λ (t : TableState). IsGranted v.limits t (end_request d x)) (sym (table_is v is whole tied))
         (record {
           early = early_end v.limits v x d own;
-          whole = stays v.limits rose v (uses (whole_world v) (end_request d x));
+          whole = stays_for d;
           late = end_row v.limits v x d ∙ ap (option_map coord_refusal) (no_refusal s is_ok);
         })
-
-    pub decided_settled : (s : Status) → result ≡ Ok s → c' ≡ decided v.coord x d → IsTied u → table_of u ≡ with_batch (decision_batch (table_of v) x d) (table_of v)
-    decided_settled s is_ok e tied' =
-        table_is u (decided_engine s is_ok e) (decided_whole s is_ok e) tied' ∙ decided_table s is_ok e tied ∙ ap (λ (t : TableState). with_batch (decision_batch t x d) t) (sym (table_is v is whole tied))
 
   -- ---- How it goes on.
 
@@ -339,9 +343,9 @@ module _ (v : EngineView) (is : IsEngine v) (whole : IsWhole v) (x : TxnId) (d :
       (since : After on (Appends IsFile StandsIn v.coord.content (coord_batch (decision_entry x d))) old new) (others : Elsewhere v.coord.content.key (on.seen old) (on.seen new)) (cause : FaultsIn on v.coord.content.key.part old new (result ≡ Err coord_error.Fault)) where
     allowed_open : is_open (status_in_view v.coord x) ≡ true → IsTied v → Lawful (world_of v) → IsAllowed (in_coord (decision_entry x d)) (world_of v)
     allowed_open still_open tied lawful =
-        let same_world : world_of v ≡ whole_world v = world_is v is whole tied in
+        let same_world : world_of v ≡ logged_world v = world_is v is whole tied in
         subst (IsAllowed (in_coord (decision_entry x d))) (sym same_world)
-        (subst (λ (b : EntryBatch). IsAllowed b (whole_world v)) (batch_open v x d still_open) (decision_granted (whole_table v) x d (subst Lawful same_world lawful)).allowed)
+        (subst (λ (b : EntryBatch). IsAllowed b (logged_world v)) (batch_open v x d still_open) (decision_granted (logged_table v) x d (subst Lawful same_world lawful)).allowed)
 
     open_by : (e : CoordError) → result ≡ Err e → decide_refusal v.coord x d ≡ None → (b : Bool) → is_open (status_in_view v.coord x) ≡ b → is_open (status_in_view v.coord x) ≡ true
     open_by e is_err none true still_open = still_open
@@ -355,8 +359,8 @@ module _ (v : EngineView) (is : IsEngine v) (whole : IsWhole v) (x : TxnId) (d :
 
         by_test : (b : Bool) → is_open (status_in_view v.coord x) ≡ b → EngineGoesOn on (result ≡ Err coord_error.Fault) v u old new
         by_test true still_open =
-            coord_goes on v is old new backed (result ≡ Err coord_error.Fault) (result ≡ Err coord_error.Fault) (decision_entry x d) u whole.coord (decision_fits x d fits) (allowed_open still_open) refl refl
-            (inl (decided_whole s is_ok e).coord) (inl (table_grown v is (decision_entry x d) (decision_fits x d fits) whole.coord c' v.coord.reserved (e ∙ decided_open v.coord x d still_open))) tie here since others cause (λ h. h)
+            coord_goes on v is old new backed (result ≡ Err coord_error.Fault) (result ≡ Err coord_error.Fault) (decision_entry x d) u whole (decision_fits x d fits) (allowed_open still_open) refl refl
+            (inl (decided_whole s is_ok e)) (inl (table_grown v is (decision_entry x d) (decision_fits x d fits) whole c' v.coord.reserved (e ∙ decided_open v.coord x d still_open))) tie here since others cause (λ h. h)
         by_test false shut = still_goes on v is whole old new backed (result ≡ Err coord_error.Fault) never c' (e ∙ decided_shut v.coord x d shut) (idle shut)
 
     pub decided_err_goes : (e : CoordError) → result ≡ Err e → ((e ≡ coord_error.Fault → ⊥) → c' ≡ v.coord) → ((e ≡ coord_error.Fault → ⊥) → new ≡ old) → EngineGoesOn on (result ≡ Err coord_error.Fault) v u old new
@@ -368,11 +372,11 @@ module _ (v : EngineView) (is : IsEngine v) (whole : IsWhole v) (x : TxnId) (d :
 
 -- ---- The clauses, over an equal view.
 
-module _ (v : EngineView) (is : IsEngine v) (w : EngineView) (view : v ≡ w) (whole' : IsWhole w) (x : TxnId) (d : Decision) (fits : IsTxnId x) (result : Result Status CoordError) (c' : CoordView)
+module _ (v : EngineView) (is : IsEngine v) (w : EngineView) (view : v ≡ w) (whole' : IsTrue w.coord.whole) (x : TxnId) (d : Decision) (fits : IsTxnId x) (result : Result Status CoordError) (c' : CoordView)
     (refused : MatchOption (decide_refusal v.coord x d) (MayFail result) (λ y. result ≡ Err y)) (repeated : decide_refusal v.coord x d ≡ None → is_open (status_in_view v.coord x) ≡ false → IsOk result)
     (now : OnOk result (c' ≡ decided v.coord x d)) (fault : result ≡ Err coord_error.Fault → c' ≡ with_failed_entry v.coord (decision_entry x d)) (same : IfErr result (λ e. (e ≡ coord_error.Fault → ⊥) → c' ≡ v.coord)) where
-  whole_here : IsWhole v
-  whole_here = subst IsWhole (sym view) whole'
+  whole_here : IsTrue v.coord.whole
+  whole_here = subst (λ (z : EngineView). IsTrue z.coord.whole) (sym view) whole'
 
   grown : (s : Status) → result ≡ Ok s → c' ≡ decided v.coord x d
   grown s is_ok = from_ok result (c' ≡ decided v.coord x d) s is_ok now
@@ -388,13 +392,10 @@ module _ (v : EngineView) (is : IsEngine v) (w : EngineView) (view : v ≡ w) (w
   pub decided_clause : OnOk result (decision_of (coord_skeletons c'.front) x ≡ Some d)
   decided_clause = on_ok result (decision_of (coord_skeletons c'.front) x ≡ Some d) (λ s is_ok. decided_now v is whole_here x d fits result c' refused repeated now fault same s is_ok (grown s is_ok))
 
-  pub whole_clause : OnOk result (IsWhole (with_coord v c'))
-  whole_clause = on_ok result (IsWhole (with_coord v c')) (λ s is_ok. decided_whole v is whole_here x d fits result c' refused repeated now fault same s is_ok (grown s is_ok))
-
   pub ready_clause : IsReady x w → OnOk result (IsReady x (with_coord v c'))
   ready_clause ready = on_ok result (IsReady x (with_coord v c')) (λ s is_ok. ready_still v is whole_here x d fits result c' refused repeated now fault same s is_ok (grown s is_ok) (subst (IsReady x) (sym view) ready))
 
-  module _ (own : x.most ≡ 0) (tied' : IsTied w) (tie : coordinator.IsFrontOf v.coord → coordinator.IsFrontOf c') where
+  module _ (own : x.most ≡ 0) (tied' : IsTied w) where
     own_here : (x.most == 0) ≡ true
     own_here = is_zero x.most own
       where
@@ -414,7 +415,7 @@ module _ (v : EngineView) (is : IsEngine v) (w : EngineView) (view : v ≡ w) (w
     settled_clause =
         on_ok result (table_of (with_coord v c') ≡ with_batch (decision_batch (table_of w) x d) (table_of w))
         (λ s is_ok. subst (λ (z : EngineView). table_of (with_coord v c') ≡ with_batch (decision_batch (table_of z) x d) (table_of z)) view
-        (decided_settled v is whole_here x d fits result c' refused repeated now fault same own_here tied_here 0 0 (λ p. 0) (λ p. 0) 0 s is_ok (grown s is_ok) (record { coord = tie tied_here.coord; topics = tied_here.topics })))
+        (decided_table v is whole_here x d fits result c' refused repeated now fault same s is_ok (grown s is_ok) tied_here))
 
     pub refused_clause : (f g : ℕ) (fs gs : ℕ → ℕ) → CountsFaults v.coord.content.key.part f g fs gs (result ≡ Err coord_error.Fault) → IfErr result (λ e. (m : ℕ) → MayTell f g fs gs w (end_request d x) m (reply.No (coord_refusal e)) (with_coord v c'))
     refused_clause f g fs gs cause =
@@ -433,11 +434,3 @@ module _ (v : EngineView) (is : IsEngine v) (w : EngineView) (view : v ≡ w) (w
         (λ s is_ok. decided_ok_goes v is whole_here x d fits result c' refused repeated now fault same on old new backed idle unwritten tie here since others cause s is_ok (grown s is_ok))
         (λ e is_err. decided_err_goes v is whole_here x d fits result c' refused repeated now fault same on old new backed idle unwritten tie here since others cause e is_err (still e is_err)
         (from_err result (λ e. (e ≡ coord_error.Fault → ⊥) → new ≡ old) e is_err unwritten)))
-
--- ---- A transaction of another coordinator.
-
-pub foreign_told : (v : EngineView) (is : IsEngine v) (whole : IsWhole v) (tied : IsTied v) (f g : ℕ) (fs gs : ℕ → ℕ) (m : ℕ) (x : TxnId) (d : Decision) → (x.most == 0) ≡ false → MayTell f g fs gs v (end_request d x) m (reply.No (no.UnknownCoordinator x.most)) v
-foreign_told v is whole tied f g fs gs m x d other =
-    short_told f g fs gs v (end_request d x) m (reply.No (no.UnknownCoordinator x.most)) v refl
-    (at_once v.limits v x d (RoseFor f g fs gs) m (table_of v) (reply.No (no.UnknownCoordinator x.most)) (table_of v)
-    (row_told v is whole tied v.limits (RoseFor f g fs gs) (end_request d x) (no.UnknownCoordinator x.most) (foreign_end v.limits v x d other)))

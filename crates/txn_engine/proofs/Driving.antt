@@ -1,5 +1,5 @@
 -- How an engine drives a decided transaction to its end.
-use Rattle.std.proofs.Common.{◌≡◌, ℕ, ◌+◌, ◌<◌, ◌≤◌, Bool, true, false, List, [], length, Some, None, is_some, Result, Ok, Err, IsOk, OnOk, refl, sym, ap, ◌∙◌, subst, arith, codes}
+use Rattle.std.proofs.Common.{◌≡◌, ℕ, ◌+◌, ◌<◌, ◌≤◌, Bool, true, false, List, [], length, Some, None, is_some, Result, Ok, Err, IsOk, OnOk, IsTrue, refl, sym, ap, ◌∙◌, subst, arith, codes}
 use Rattle.std.proofs.Math.ListN.{get_or}
 use Rattle.txn_base.specs.declared.core_entry.CoreEntry.{CoreEntry}
 use Rattle.std.proofs.lemmas.List.{get_or_default}
@@ -19,12 +19,12 @@ use Rattle.txn_wire.specs.Short.{IsPartName}
 use Rattle.txn_engine.specs.Kept.{IsEngine}
 use Rattle.txn_engine.specs.Table.{table_of}
 use Rattle.txn_engine.specs.Told.{RoseFor}
-use Rattle.txn_engine.specs.View.{EngineView, IsWhole, IsTied}
+use Rattle.txn_engine.specs.View.{EngineView, IsTied}
 use Rattle.txn_engine.proofs.Closing.{closing_none, closing_is}
 use Rattle.txn_engine.proofs.Going.{rose_then}
 use Rattle.txn_engine.proofs.Marks.{name_here, name_form}
 use Rattle.txn_engine.proofs.TopicNames.{part_name}
-use Rattle.txn_engine.proofs.Whole.{whole_table, table_is}
+use Rattle.txn_engine.proofs.Logged.{logged_table, table_is}
 
 -- Over the same coordinator the decision stands.
 pub decided_after : (c c' : CoordView) → c' ≡ c → (x : TxnId) (d : Decision) → decision_of (coord_skeletons c.front) x ≡ Some d → decision_of (coord_skeletons c'.front) x ≡ Some d
@@ -34,7 +34,7 @@ decided_after c c' same x d decided = subst (λ (z : CoordView). decision_of (co
 abbrev pub stuck_by : Decision → List ℕ → Outcome
 stuck_by d part = record { status = deciding d; stuck = Some (record { part = part; why = why.Fault }) }
 
-module _ (v : EngineView) (is : IsEngine v) (whole : IsWhole v) (tied : IsTied v) (x : TxnId) (d : Decision) (decided : decision_of (coord_skeletons v.coord.front) x ≡ Some d) (f g : ℕ) (fs gs : ℕ → ℕ) where
+module _ (v : EngineView) (is : IsEngine v) (whole : IsTrue v.coord.whole) (tied : IsTied v) (x : TxnId) (d : Decision) (decided : decision_of (coord_skeletons v.coord.front) x ≡ Some d) (f g : ℕ) (fs gs : ℕ → ℕ) where
   abbrev log : List CoreEntry
   log = coord_skeletons v.coord.front
 
@@ -42,8 +42,8 @@ module _ (v : EngineView) (is : IsEngine v) (whole : IsWhole v) (tied : IsTied v
   rose = RoseFor f g fs gs
 
   -- what is told over the table of what it has rebuilt
-  over_whole : (outcome told : Outcome) (t' : TableState) → told ≡ outcome → Drives rose x (whole_table v) outcome t' → Drives rose x (table_of v) told t'
-  over_whole outcome told t' e h = subst (λ (t : TableState). Drives rose x t told t') (sym (table_is v is whole tied)) (subst (λ (o : Outcome). Drives rose x (whole_table v) o t') (sym e) h)
+  over_whole : (outcome told : Outcome) (t' : TableState) → told ≡ outcome → Drives rose x (logged_table v) outcome t' → Drives rose x (table_of v) told t'
+  over_whole outcome told t' e h = subst (λ (t : TableState). Drives rose x t told t') (sym (table_is v is whole tied)) (subst (λ (o : Outcome). Drives rose x (logged_table v) o t') (sym e) h)
 
   pub already_told : (begun : Bool) → begun ≡ is_some (closing_of log x) → begun ≡ true → (s : Status) → s ≡ closed d → Drives rose x (table_of v) (record { status = s; stuck = None }) (table_of v)
   already_told begun is_it so s e =
@@ -61,7 +61,7 @@ module _ (v : EngineView) (is : IsEngine v) (whole : IsWhole v) (tied : IsTied v
         (stops d unclosed decided (1 + at) why.Fault (subst (λ (t : TableState). StopsWithin rose x d (parts_of log x) (1 + at) t why.Fault t') (table_is v is whole tied) h) (ap (stuck_by d) same))
 
     module _ (mid : TableState) (marks : MarksAll x d (parts_of log x) (table_of v) mid) where
-      marks_here : MarksAll x d (parts_of log x) (whole_table v) mid
+      marks_here : MarksAll x d (parts_of log x) (logged_table v) mid
       marks_here = subst (λ (t : TableState). MarksAll x d (parts_of log x) t mid) (table_is v is whole tied) marks
 
       pub close_fault_told : (told : Outcome) (t' : TableState) → told ≡ stuck_by d (codes "@coordinator") → rose 0 → t' ≡ with_failed_batch (closing_batch x d) 0 mid → Drives rose x (table_of v) told t'

@@ -17,21 +17,20 @@ use Rattle.txn_engine.specs.Told.{IsAsked}
 use Rattle.txn_engine.specs.View.{EngineView}
 use Rattle.txn_engine.proofs.TopicNames.{not_sub}
 use Rattle.txn_engine.proofs.TopicRows.{knows}
-use Rattle.txn_engine.proofs.Whole.{whole_world}
 
 module _ (v w : EngineView) (view : v ≡ w) (r : Request) (told : Reply) where
   at_view : TellsEarly v.limits (world_of v) r told → TellsEarly w.limits (world_of w) r told
   at_view h = subst (λ (x : EngineView). TellsEarly x.limits (world_of x) r told) view h
 
   -- none comes
-  pub no_row : early_refusal v.limits (whole_world v) r ≡ None → TellsEarly w.limits (world_of w) r told
+  pub no_row : early_refusal v.limits (world_of v) r ≡ None → TellsEarly w.limits (world_of w) r told
   no_row none = at_view (λ row is. absurd (never (sym none ∙ is)))
     where
       never : {row : Refusal} → None ≡ Some row → ⊥
       never e = cc
 
   -- one comes
-  pub its_row : (first : Refusal) → early_refusal v.limits (whole_world v) r ≡ Some first → (told ≡ reply.No first) ⊎ (told ≡ reply.No no.NoMemory) → TellsEarly w.limits (world_of w) r told
+  pub its_row : (first : Refusal) → early_refusal v.limits (world_of v) r ≡ Some first → (told ≡ reply.No first) ⊎ (told ≡ reply.No no.NoMemory) → TellsEarly w.limits (world_of w) r told
   its_row first comes (inl e) = at_view (λ row is. inl (e ∙ ap (λ (x : Refusal). reply.No x) (same (sym comes ∙ is))))
     where
       same : {a b : Refusal} → Some a ≡ Some b → a ≡ b

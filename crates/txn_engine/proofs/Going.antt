@@ -42,7 +42,8 @@ use Rattle.txn_engine.proofs.Coordinators.{failed_is, engine_with}
 use Rattle.txn_engine.proofs.Elsewhere.{other_coord, other_topics, other_topics_but}
 use Rattle.txn_engine.proofs.Files.{only_one, only_then, images_append, images_then}
 use Rattle.txn_engine.proofs.Growing.{appended_grows, files_first, files_then, worlds_first, worlds_then}
-use Rattle.txn_engine.proofs.Lists.{at_index, all_replaced, topic_at, unrebuilt_in}
+use Rattle.txn_engine.proofs.Lists.{at_index, all_replaced, topic_at}
+use Rattle.txn_engine.proofs.Logged.{topic_rebuilt}
 use Rattle.txn_engine.proofs.Tables.{topic_follows, topic_fails}
 use Rattle.txn_engine.proofs.Topics.{failed_topic, engine_topics}
 use Rattle.txn_engine.proofs.Worlds.{IsTopicAt, some_topic, topic_part}
@@ -91,16 +92,6 @@ moved_lawful b p t t' part kind rebuilt state allowed =
     ⊎_elim
     (λ follows. subst LawfulState (sym follows) (settled_state b t state kind rebuilt allowed))
     (λ fails. subst LawfulState (sym fails) (failed_state b p t part state allowed))
-
-topic_rebuilt : (v : EngineView) (j : ℕ) (below : j < length v.topics) → IsTrue (get_or v.topics j (some_topic v)).whole → is_unrebuilt (table_of v) (1 + j) ≡ false
-topic_rebuilt v j below whole = by_test ((1 + j) == 0) refl
-  where
-    never : (j : ℕ) → ((1 + j) == 0) ≡ true → ⊥
-    never j e = grind (arith, nat_tests, e)
-
-    by_test : (b : Bool) → ((1 + j) == 0) ≡ b → (if (1 + j) == 0 then not v.coord.whole else unrebuilt_from 1 v.topics (1 + j)) ≡ false
-    by_test true e = absurd (never j e)
-    by_test false e = rw e (unrebuilt_in 1 v.topics j (some_topic v) (1 + j) refl below ∙ ap not whole)
 
 -- ---- The table by the topic at an index that an engine has then.
 
@@ -284,7 +275,7 @@ module _ {D : Type 0} (on : Ghosts D) where
                 topics = subst (All topic.IsFrontOf) (sym topics) (all_replaced topic.IsFrontOf v.topics j t (tied (at_index topic.IsFrontOf v.topics j (some_topic v) below was.topics)) was.topics);
               };
               lawful = λ was state.
-                  moved_lawful (in_topic (1 + j) es) (1 + j) (table_of v) (table_of v') refl (topic_part v is j below) (topic_rebuilt v j below one_whole) state (allowed was state.lawful) table;
+                  moved_lawful (in_topic (1 + j) es) (1 + j) (table_of v) (table_of v') refl (topic_part v is j below) (topic_rebuilt v j (some_topic v) below one_whole (coord_entries v.coord.content.batches) (coord_flight v.coord.content.standing) (not v.coord.whole) (1 + j) refl) state (allowed was state.lawful) table;
               backed = record {
                 coord = subst (λ (c : CoordView). Stored (on.image new) c.content) (sym coord)
                     (other_coord (Stored (on.image old)) (Stored (on.image new)) (1 + j) still (omega arith) v.coord.content is.coord.key backed.coord);

@@ -11,4 +11,4 @@ pub use Rattle.txn_engine.proofs.OpeningFiles.{keeps_itself}
 -- The ledger of a part that is rebuilt is just its frames, and so are all ledgers where all parts are.
 pub use Rattle.txn_engine.proofs.Tidy.{part_just, just_frames}
 -- Where all is rebuilt, the state of the table is lawful where an image stands for a lawful world.
-pub use Rattle.txn_engine.proofs.OpenedState.{opened_lawful}
+pub use Rattle.txn_engine.proofs.Opened.{opened_lawful}

@@ -18,7 +18,7 @@ use Rattle.txn_buffer.specs.View.{TopicView}
 use Rattle.txn_engine.specs.Kept.{IsEngine}
 use Rattle.txn_engine.specs.Table.{coord_flight, topic_flight, lists_from, flights_from, world_of, table_of}
 use Rattle.txn_engine.specs.View.{EngineView, IsBacked}
-use Rattle.txn_engine.proofs.Changed.{coord_entries_more, topic_entries_more}
+use Rattle.txn_engine.proofs.Tables.{coord_entries_more, topic_entries_more}
 use Rattle.txn_engine.proofs.Elsewhere.{Held, Holds, backed_holds}
 use Rattle.txn_engine.proofs.Lists.{list_in, flight_in, topic_at, at_index}
 use Rattle.txn_engine.proofs.Worlds.{shaped_world, index_of, no_sub_parts, some_topic}

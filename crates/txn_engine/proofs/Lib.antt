@@ -1,7 +1,6 @@
 pub mod Laws
 pub mod Lists
-pub mod Whole
-pub mod Changed
+pub mod Logged
 pub mod Tables
 pub mod Elsewhere
 pub mod Topics
@@ -41,4 +40,4 @@ pub mod OpeningTopic
 pub mod OpeningLog
 pub mod OpeningAll
 pub mod Tidy
-pub mod OpenedState
+pub mod Opened

@@ -52,33 +52,6 @@ here k p e = grind (arith, nat_tests, e)
 past : (k i p : ℕ) → p ≡ k + suc i → (k == p) ≡ false
 past k i p e = grind (arith, nat_tests, e)
 
--- ---- The fronts of whole topics.
-
--- From part k on, the fronts of these topics, each beside its part.
-abbrev pub fronts_from : ℕ → List TopicView → List (ℕ × List TopicEntry)
-fronts_from k [] = []
-fronts_from k (t ∷ ts) = (k, t.front) ∷ fronts_from (suc k) ts
-
--- where the front of one has grown
-pub fronts_replaced : (k : ℕ) (ts : List TopicView) (i : ℕ) (t d : TopicView) (more : List TopicEntry) (p : ℕ) → p ≡ k + i → i < length ts → t.front ≡ (get_or ts i d).front ++ more → fronts_from k (replaced ts i t) ≡ append_at (fronts_from k ts) p more
-fronts_replaced k [] i t d more p e h grown = absurd (never_below i h)
-fronts_replaced k (u ∷ us) zero t d more p e h grown =
-    let same : k ≡ p = omega (arith, e) in
-    rw (here k p e) (ap₂ (λ (q : ℕ) (es : List TopicEntry). (q, es) ∷ fronts_from (suc k) us) same grown)
-fronts_replaced k (u ∷ us) (suc i) t d more p e h grown =
-    rw (past k i p e) (ap (λ (ls : List (ℕ × List TopicEntry)). (k, u.front) ∷ ls) (fronts_replaced (suc k) us i t d more p (omega (arith, e)) (omega (arith, h)) grown))
-
--- where that of one is as it was
-pub fronts_same : (k : ℕ) (ts : List TopicView) (i : ℕ) (t d : TopicView) → i < length ts → t.front ≡ (get_or ts i d).front → fronts_from k (replaced ts i t) ≡ fronts_from k ts
-fronts_same k [] i t d h same = absurd (never_below i h)
-fronts_same k (u ∷ us) zero t d h same = ap (λ (es : List TopicEntry). (k, es) ∷ fronts_from (suc k) us) same
-fronts_same k (u ∷ us) (suc i) t d h same = ap (λ (ls : List (ℕ × List TopicEntry)). (k, u.front) ∷ ls) (fronts_same (suc k) us i t d (omega (arith, h)) same)
-
-pub front_at : (k : ℕ) (ts : List TopicView) (i : ℕ) (d : TopicView) (p : ℕ) → p ≡ k + i → i < length ts → list_at (fronts_from k ts) p ≡ (get_or ts i d).front
-front_at k [] i d p e h = absurd (never_below i h)
-front_at k (u ∷ us) zero d p e h = rw (here k p e) refl
-front_at k (u ∷ us) (suc i) d p e h = rw (past k i p e) (front_at (suc k) us i d p (omega (arith, e)) (omega (arith, h)))
-
 -- ---- What the ledgers hold.
 
 pub list_in : (k : ℕ) (ts : List TopicView) (i : ℕ) (d : TopicView) (p : ℕ) → p ≡ k + i → i < length ts → list_at (lists_from k ts) p ≡ topic_entries (get_or ts i d).content.batches
@@ -119,29 +92,6 @@ no_flight k (u ∷ us) all p =
     flight_step (k == p) (topic_flight u.content.standing) (list_at (flights_from (suc k) us) p)
     (ap topic_flight (All-head (λ t. t.content.standing ≡ settled) u us all)) (no_flight (suc k) us (All-tail (λ t. t.content.standing ≡ settled) u us all) p)
 
-pub flight_at : (k : ℕ) (ts : List TopicView) (i : ℕ) (t : TopicView) (es : List TopicEntry) (p0 : ℕ) → p0 ≡ k + i → i < length ts → topic_flight t.content.standing ≡ es → All (λ t. t.content.standing ≡ settled) ts
-    → (p : ℕ) → list_at (flights_from k (replaced ts i t)) p ≡ (if p == p0 then es else [])
-flight_at k [] i t es p0 e h flies all p = absurd (never_below i h)
-flight_at k (u ∷ us) zero t es p0 e h flies all p = by_test (k == p) refl
-  where
-    turned : (b : Bool) → (k == p) ≡ b → (p == p0) ≡ b
-    turned true q = grind (arith, nat_tests, q, e)
-    turned false q = grind (arith, nat_tests, q, e)
-
-    by_test : (b : Bool) → (k == p) ≡ b → (if k == p then topic_flight t.content.standing else list_at (flights_from (suc k) us) p) ≡ (if p == p0 then es else [])
-    by_test true q = rw (q, turned true q) flies
-    by_test false q = rw (q, turned false q) (no_flight (suc k) us (All-tail (λ t. t.content.standing ≡ settled) u us all) p)
-flight_at k (u ∷ us) (suc i) t es p0 e h flies all p =
-    by_test (k == p) refl (flight_at (suc k) us i t es p0 (omega (arith, e)) (omega (arith, h)) flies (All-tail (λ t. t.content.standing ≡ settled) u us all) p)
-  where
-    other : (k == p) ≡ true → (p == p0) ≡ false
-    other q = grind (arith, nat_tests, q, e)
-
-    by_test : (b : Bool) → (k == p) ≡ b → list_at (flights_from (suc k) (replaced us i t)) p ≡ (if p == p0 then es else [])
-        → (if k == p then topic_flight u.content.standing else list_at (flights_from (suc k) (replaced us i t)) p) ≡ (if p == p0 then es else [])
-    by_test true q rest = rw (q, other q) (ap topic_flight (All-head (λ t. t.content.standing ≡ settled) u us all))
-    by_test false q rest = rw q rest
-
 not_true : (b : Bool) → IsTrue b → not b ≡ false
 not_true b h = ap not h
 
@@ -153,28 +103,6 @@ pub none_unrebuilt : (k : ℕ) (ts : List TopicView) → All (λ t. IsTrue t.who
 none_unrebuilt k [] all p = refl
 none_unrebuilt k (u ∷ us) all p =
     unrebuilt_step (p == k) (not u.whole) (unrebuilt_from (suc k) us p) (not_true u.whole (All-head (λ t. IsTrue t.whole) u us all)) (none_unrebuilt (suc k) us (All-tail (λ t. IsTrue t.whole) u us all) p)
-
-pub unrebuilt_at : (k : ℕ) (ts : List TopicView) (i : ℕ) (t : TopicView) (p0 : ℕ) → p0 ≡ k + i → i < length ts → t.whole ≡ false → All (λ t. IsTrue t.whole) ts → (p : ℕ) → unrebuilt_from k (replaced ts i t) p ≡ (if p == p0 then true else false)
-unrebuilt_at k [] i t p0 e h unrebuilt all p = absurd (never_below i h)
-unrebuilt_at k (u ∷ us) zero t p0 e h unrebuilt all p = by_test (p == k) refl
-  where
-    turned : (b : Bool) → (p == k) ≡ b → (p == p0) ≡ b
-    turned true q = grind (arith, nat_tests, q, e)
-    turned false q = grind (arith, nat_tests, q, e)
-
-    by_test : (b : Bool) → (p == k) ≡ b → (if p == k then not t.whole else unrebuilt_from (suc k) us p) ≡ (if p == p0 then true else false)
-    by_test true q = rw (q, turned true q) (ap not unrebuilt)
-    by_test false q = rw (q, turned false q) (none_unrebuilt (suc k) us (All-tail (λ t. IsTrue t.whole) u us all) p)
-unrebuilt_at k (u ∷ us) (suc i) t p0 e h unrebuilt all p =
-    by_test (p == k) refl (unrebuilt_at (suc k) us i t p0 (omega (arith, e)) (omega (arith, h)) unrebuilt (All-tail (λ t. IsTrue t.whole) u us all) p)
-  where
-    other : (p == k) ≡ true → (p == p0) ≡ false
-    other q = grind (arith, nat_tests, q, e)
-
-    by_test : (b : Bool) → (p == k) ≡ b → unrebuilt_from (suc k) (replaced us i t) p ≡ (if p == p0 then true else false)
-        → (if p == k then not u.whole else unrebuilt_from (suc k) (replaced us i t) p) ≡ (if p == p0 then true else false)
-    by_test true q rest = rw (q, other q) (not_true u.whole (All-head (λ t. IsTrue t.whole) u us all))
-    by_test false q rest = rw q rest
 
 -- With another one at an index.
 

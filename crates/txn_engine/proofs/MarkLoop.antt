@@ -11,20 +11,21 @@ use Rattle.txn_base.specs.declared.txn.TxnId.{TxnId}
 use Rattle.txn_base.specs.declared.txn.Decision.{Decision}
 use Rattle.txn_buffer.specs.View.{TopicView}
 use Rattle.txn_model.specs.Coord.{CoordLawful, in_parts, parts_of}
-use Rattle.txn_model.specs.Drive.{Rebuilds, MarksAll, StopsWithin, marker_fault}
+use Rattle.txn_model.specs.Drive.{MarksAll, StopsWithin, marker_fault}
 use Rattle.txn_model.specs.Skeletons.{coord_skeletons, topic_skeletons}
-use Rattle.txn_model.specs.Table.{is_unrebuilt, marker_batch, marked, with_failed_batch}
+use Rattle.txn_model.specs.Table.{marker_batch, marked, with_failed_batch}
 use Rattle.txn_model.specs.Topic.{marker_of}
 use Rattle.txn_model.specs.World.{part_skeletons}
 use Rattle.txn_model.proofs.Laws.Names.{few_names}
-use Rattle.txn_engine.specs.Ending.{AreReady, AreMarked, IsElsewhere}
+use Rattle.txn_engine.specs.Ending.{AreReady, IsMarked, AreMarked, IsElsewhere}
 use Rattle.txn_engine.specs.Kept.{IsEngine}
-use Rattle.txn_engine.specs.Table.{table_of, unrebuilt_from}
+use Rattle.txn_engine.specs.Table.{table_of}
 use Rattle.txn_engine.specs.Told.{EngineGoesOn}
 use Rattle.txn_engine.specs.View.{EngineView, IsWhole, IsTied, IsBacked}
 use Rattle.txn_engine.proofs.Going.{goes_still, goes_then, goes_like, rose_then}
-use Rattle.txn_engine.proofs.Lists.{none_unrebuilt}
+use Rattle.txn_engine.proofs.Opened.{not_unrebuilt}
 use Rattle.txn_engine.proofs.Marked.{from_ok_err}
+use Rattle.txn_engine.proofs.Rows.{one_stays}
 use Rattle.txn_engine.proofs.Parts.{parts_past, rest_has, rest_without, rest_ends, Marking, marking_starts, marking_more, marking_ends, marking_stops}
 
 -- ---- What the bits say.
@@ -54,25 +55,6 @@ below_at v w e n at is h = subst (λ (z : EngineView). at < length z.topics) e (
 pub past_at : (v w : EngineView) → v ≡ w → (n at : ℕ) → n ≡ length v.topics → n ≤ at → length w.topics ≤ at
 past_at v w e n at is h = subst (λ (z : EngineView). length z.topics ≤ at) e (subst (λ (k : ℕ). k ≤ at) is h)
 
--- ---- Whole parts.
-
-whole_step : (b x rest : Bool) → x ≡ false → rest ≡ false → (if b then x else rest) ≡ false
-whole_step true x rest e h = e
-whole_step false x rest e h = h
-
-pub not_unrebuilt : (v : EngineView) → IsWhole v → (p : ℕ) → is_unrebuilt (table_of v) p ≡ false
-not_unrebuilt v whole p = whole_step (p == 0) (not v.coord.whole) (unrebuilt_from 1 v.topics p) (ap not whole.coord) (none_unrebuilt 1 v.topics whole.topics p)
-
-pub rebuilds_here : (v : EngineView) → IsWhole v → (p : ℕ) → Rebuilds p (table_of v) (table_of v)
-rebuilds_here v whole p = by_test (is_unrebuilt (table_of v) p) _ (not_unrebuilt v whole p)
-  where
-    never : true ≡ false → ⊥
-    never e = cc
-
-    by_test : (b : Bool) (A : Type 0) → b ≡ false → MatchBool b A (table_of v ≡ table_of v)
-    by_test true A e = absurd (never e)
-    by_test false A e = refl
-
 -- ---- The loop.
 
 -- From v to u, over these disks, the parts of x up to the index have their marker, and no other has one more.
@@ -101,7 +83,7 @@ module _ {D : Type 0} (on : Ghosts D) (tells : Type 0) (x : TxnId) (d : Decision
     limits = refl;
     whole = whole;
     ready = λ j t from below has. ready j t below below has;
-    given = λ j t before. absurd (none j before);
+    given = λ j before. absurd (none j before);
     marking = λ told tied. marking_starts x d (parts_of (coord_skeletons v.coord.front) x) (table_of v);
     goes = goes_still on ⊥ (λ e. e) v v old backed refl refl refl;
   }
@@ -129,7 +111,7 @@ module _ {D : Type 0} (on : Ghosts D) (tells : Type 0) (x : TxnId) (d : Decision
       limits = so.limits;
       whole = so.whole;
       ready = λ j t from. so.ready j t (earlier at j from);
-      given = λ j t before within in_it. given_by j t (j == at) refl before within in_it;
+      given = λ j before within in_it. given_by j (j == at) refl before within in_it;
       marking = λ told tied. subst (λ (ps : List ℕ). Marking x d (parts_of log x) ps (table_of v) (table_of u)) (rest_without log x at has few_here) (so.marking told tied);
       goes = so.goes;
     }
@@ -146,10 +128,10 @@ module _ {D : Type 0} (on : Ghosts D) (tells : Type 0) (x : TxnId) (d : Decision
         never : {b : Bool} → b ≡ true → b ≡ false → ⊥
         never e h = cc
 
-        given_by : (j : ℕ) (t : TopicView) (b : Bool) → (j == at) ≡ b → j < at + 1 → j < length u.topics → in_parts (coord_skeletons u.coord.front) x (1 + j) ≡ true → is_some (marker_of (topic_skeletons (slice_index_or u.topics j t).front) x) ≡ true
-        given_by j t true e before within in_it =
+        given_by : (j : ℕ) (b : Bool) → (j == at) ≡ b → j < at + 1 → j < length u.topics → in_parts (coord_skeletons u.coord.front) x (1 + j) ≡ true → IsMarked x u j
+        given_by j true e before within in_it =
             absurd (never (subst (λ (i : ℕ). in_parts log x (1 + i) ≡ true) (same_as at j e) (ap (λ c. in_parts (coord_skeletons c.front) x (1 + j)) (sym so.coord) ∙ in_it)) has)
-        given_by j t false e before within in_it = so.given j t (before_it at j before e) within in_it
+        given_by j false e before within in_it = so.given j (before_it at j before e) within in_it
 
     -- it is
     module _ (has : in_parts log x (1 + at) ≡ true) where
@@ -160,7 +142,7 @@ module _ {D : Type 0} (on : Ghosts D) (tells : Type 0) (x : TxnId) (d : Decision
           self k = omega arith
 
       module _ (w : EngineView) (new : D) (r : Result (Unit {0}) Failed) (elsewhere : IsElsewhere at u w) (goes : EngineGoesOn on (IsErr r) u w now new) where
-        pub loop_marks : IsOk r → (tells → IsTied u → OnOk r (table_of w ≡ marked x d (1 + at) (table_of u))) → OnOk r ((t : TopicView) → is_some (marker_of (topic_skeletons (slice_index_or w.topics at t).front) x) ≡ true) → UpTo v w old new (at + 1)
+        pub loop_marks : IsOk r → (tells → IsTied u → OnOk r (table_of w ≡ marked x d (1 + at) (table_of u))) → OnOk r (IsMarked x w at) → UpTo v w old new (at + 1)
         loop_marks is_ok ok stands = record {
           within = omega (arith, below, elsewhere.count);
           count = elsewhere.count ∙ so.count;
@@ -170,10 +152,10 @@ module _ {D : Type 0} (on : Ghosts D) (tells : Type 0) (x : TxnId) (d : Decision
           whole = whole_now goes.whole;
           ready = λ j t from within in_it.
               ap (λ (k : TopicView). k.reserved) (elsewhere.topics j t (apart at j from)) ∙ so.ready j t (earlier at j from) (omega (arith, within, elsewhere.count)) in_it;
-          given = λ j t before within in_it. given_by j t (j == at) refl before within in_it;
+          given = λ j before within in_it. given_by j (j == at) refl before within in_it;
           marking = λ told tied.
               marking_more x d (parts_of log x) (1 + at) (parts_past log x at) (parts_past log x (at + 1)) (table_of v) (table_of u) (table_of w) (so.marking told tied) (rest_has log x at has few_here)
-              (rebuilds_here u so.whole (1 + at)) (from_is_ok (ok told (so.goes.tied tied)));
+              (one_stays (table_of u) (1 + at) (not_unrebuilt u so.whole (1 + at))) (from_is_ok (ok told (so.goes.tied tied)));
           goes = goes_like on (IsErr r) ⊥ v w old new (λ err. no_err err) (λ e. absurd e) (goes_then on ⊥ (IsErr r) v u w old now new (λ e. e) so.goes goes);
         }
           where
@@ -210,11 +192,14 @@ module _ {D : Type 0} (on : Ghosts D) (tells : Type 0) (x : TxnId) (d : Decision
             same_as : (at j : ℕ) → (j == at) ≡ true → j ≡ at
             same_as at j e = grind (arith, nat_tests, e)
 
-            given_by : (j : ℕ) (t : TopicView) (b : Bool) → (j == at) ≡ b → j < at + 1 → j < length w.topics → in_parts (coord_skeletons w.coord.front) x (1 + j) ≡ true → is_some (marker_of (topic_skeletons (slice_index_or w.topics j t).front) x) ≡ true
-            given_by j t true e before within in_it = subst (λ (i : ℕ). is_some (marker_of (topic_skeletons (slice_index_or w.topics i t).front) x) ≡ true) (sym (same_as at j e)) (from_is_ok stands t)
-            given_by j t false e before within in_it =
-                ap (λ (k : TopicView). is_some (marker_of (topic_skeletons k.front) x)) (elsewhere.topics j t (not_it at j e))
-                ∙ so.given j t (before_it at j before e) (omega (arith, within, elsewhere.count)) (ap (λ c. in_parts (coord_skeletons c.front) x (1 + j)) (sym elsewhere.coord) ∙ in_it)
+            given_by : (j : ℕ) (b : Bool) → (j == at) ≡ b → j < at + 1 → j < length w.topics → in_parts (coord_skeletons w.coord.front) x (1 + j) ≡ true → IsMarked x w j
+            given_by j true e before within in_it = subst (IsMarked x w) (sym (same_as at j e)) (from_is_ok stands)
+            given_by j false e before within in_it =
+                let was : IsMarked x u j = so.given j (before_it at j before e) (omega (arith, within, elsewhere.count)) (ap (λ c. in_parts (coord_skeletons c.front) x (1 + j)) (sym elsewhere.coord) ∙ in_it) in
+                record {
+                  whole = λ t. subst (λ (k : TopicView). IsTrue k.whole) (sym (elsewhere.topics j t (not_it at j e))) (was.whole t);
+                  stands = λ t. ap (λ (k : TopicView). is_some (marker_of (topic_skeletons k.front) x)) (elsewhere.topics j t (not_it at j e)) ∙ was.stands t;
+                }
 
         -- its append failed
         pub loop_stops : IsErr r → (tells → IsTied u → OnErr r ((is_none (marker_of (part_skeletons (table_of u).world (1 + at)) x) ≡ true) × (table_of w ≡ with_failed_batch (marker_batch (table_of u) x d (1 + at)) (1 + at) (table_of u))))
@@ -224,7 +209,7 @@ module _ {D : Type 0} (on : Ghosts D) (tells : Type 0) (x : TxnId) (d : Decision
             let failed = from_ok_err r ((is_none (marker_of (part_skeletons (table_of u).world (1 + at)) x) ≡ true) × (table_of w ≡ with_failed_batch (marker_batch (table_of u) x d (1 + at)) (1 + at) (table_of u))) is_err (err told (so.goes.tied tied)) in
             let grew = from_ok_err r (RoseIn on now new (1 + at)) is_err rose in
             marking_stops x d (parts_of log x) (RoseIn on old new) (1 + at) (parts_past log x at) (parts_past log x (at + 1)) (table_of v) (table_of u) why.Fault (table_of w) (so.marking told tied) (rest_has log x at has few_here)
-            (marker_fault (table_of u) (rebuilds_here u so.whole (1 + at)) failed.0
+            (marker_fault (table_of u) (one_stays (table_of u) (1 + at) (not_unrebuilt u so.whole (1 + at))) failed.0
             (rose_then (on.faults old) (on.faults now) (on.faults new) so.goes.cause.later grew.0, rose_then (on.part_faults old (1 + at)) (on.part_faults now (1 + at)) (on.part_faults new (1 + at)) (so.goes.cause.parts_later (1 + at)) grew.1) failed.1 refl)
 
         pub loop_fails : IsErr r → (Y : Type 0) → Y → EngineGoesOn on Y v w old new
@@ -233,6 +218,9 @@ module _ {D : Type 0} (on : Ghosts D) (tells : Type 0) (x : TxnId) (d : Decision
   -- over an equal engine and disk
   pub loop_at : (v u u' : EngineView) (old now now' : D) (at : ℕ) → u' ≡ u → now' ≡ now → UpTo v u old now at → UpTo v u' old now' at
   loop_at v u u' old now now' at e h so = subst (λ (z : EngineView). UpTo v z old now' at) (sym e) (subst (λ (k : D). UpTo v u old k at) (sym h) so)
+
+  pub loop_given : (v u : EngineView) (old now : D) (at : ℕ) → UpTo v u old now at → length u.topics ≤ at → AreMarked x u (length u.topics)
+  loop_given v u old now at so past j before = so.given j (omega (arith, before, past))
 
   -- all have it
   pub loop_ends : (v u : EngineView) (old now : D) (at n : ℕ) → UpTo v u old now at → CoordLawful n (coord_skeletons v.coord.front) → n ≡ length v.topics → length u.topics ≤ at → tells → IsTied v → MarksAll x d (parts_of (coord_skeletons v.coord.front) x) (table_of v) (table_of u)

@@ -21,19 +21,19 @@ use Rattle.txn_model.specs.Table.{TableState, in_topic, marker_batch, marked, wi
 use Rattle.txn_model.specs.Topic.{marker_of}
 use Rattle.txn_model.specs.World.{part_skeletons}
 use Rattle.txn_records.specs.Topics.{marker_entry}
+use Rattle.txn_engine.specs.Ending.{IsMarked}
 use Rattle.txn_engine.specs.Kept.{IsTopic, IsEngine}
 use Rattle.txn_engine.specs.Table.{table_of}
 use Rattle.txn_engine.specs.Told.{RoseFor, EngineGoesOn}
-use Rattle.txn_engine.specs.View.{EngineView, IsWhole, IsTied, IsBacked, with_topics, replaced}
+use Rattle.txn_engine.specs.View.{EngineView, IsTied, IsBacked, IsWholeAt, with_topics, replaced}
 use Rattle.txn_engine.proofs.Decided.{on_ok, by_result}
 use Rattle.txn_engine.proofs.Going.{goes_still, topic_goes, topic_grown, topic_failed}
 use Rattle.txn_engine.proofs.Lists.{never_below, set_is, all_replaced, at_index}
 use Rattle.txn_buffer.proofs.Laws.{marker_records}
 use Rattle.txn_engine.proofs.Marks.{skeletons_at, stood_table, marked_table, marker_failed, marker_allowed}
 use Rattle.txn_engine.proofs.Published.{put_back}
-use Rattle.txn_engine.proofs.Reading.{at_place, is_topic_at}
+use Rattle.txn_engine.proofs.Reading.{at_place, is_topic_at, whole_at}
 use Rattle.txn_engine.proofs.Topics.{added_topic, failed_topic, engine_topics}
-use Rattle.txn_engine.proofs.Whole.{whole_table, table_is}
 use Rattle.txn_engine.proofs.Worlds.{IsTopicAt, some_topic}
 
 -- ---- Another topic at an index.
@@ -70,7 +70,11 @@ pub from_ok_err : (r : Result (Unit {0}) Failed) (P : Type 0) → IsErr r → On
 from_ok_err (Ok a) P is h = cc
 from_ok_err (Err e) P is h = h
 
--- ---- The topic at an index of a whole engine.
+from_ok_is : {P : Type 0} (r : Result (Unit {0}) Failed) → IsOk r → OnOk r P → P
+from_ok_is (Ok a) is h = h
+from_ok_is (Err e) is h = cc
+
+-- ---- The topic at an index.
 
 pub length_at : (v w : EngineView) (j : ℕ) → v ≡ w → j < length w.topics → j < length v.topics
 length_at v w j e h = subst (λ (z : EngineView). j < length z.topics) (sym e) h
@@ -78,15 +82,21 @@ length_at v w j e h = subst (λ (z : EngineView). j < length z.topics) (sym e) h
 pub at_view : (v w : EngineView) → v ≡ w → (j : ℕ) (t : TopicView) → j < length v.topics → t ≡ get_or v.topics j t → IsTopicAt v j t
 at_view v w e j t below same = at_place v j t below same
 
-pub settled_at : (v : EngineView) → IsEngine v → IsWhole v → (j : ℕ) → j < length v.topics → (t : TopicView) → IsTopicAt v j t → t.content.standing ≡ settled
-settled_at v is whole j below t at = (is_topic_at v is j t below at).settled_is (subst (λ (k : TopicView). IsTrue k.whole) at (at_index (λ t. IsTrue t.whole) v.topics j (some_topic v) below whole.topics))
+pub settled_at : (v : EngineView) → IsEngine v → (j : ℕ) → IsWholeAt v j → j < length v.topics → (t : TopicView) → IsTopicAt v j t → t.content.standing ≡ settled
+settled_at v is j whole below t at = (is_topic_at v is j t below at).settled_is (whole_at v j t at whole)
+
+pub whole_here : (v : EngineView) → IsEngine v → (w : EngineView) → v ≡ w → (j : ℕ) → j < length w.topics → (t : TopicView) → t ≡ get_or v.topics j t → IsWholeAt w j → IsTrue t.whole
+whole_here v is w view j below t at whole = whole_at v j t (at_view v w view j t (length_at v w j view below) at) (subst (λ (z : EngineView). IsWholeAt z j) (sym view) whole)
 
 -- ---- A topic that gets a marker.
 
-module _ (v : EngineView) (is : IsEngine v) (w : EngineView) (view : v ≡ w) (whole' : IsWhole w) (j : ℕ) (below : j < length v.topics) (x : TxnId) (d : Decision) (fits : IsTxnId x) (decided' : decision_of (coord_skeletons w.coord.front) x ≡ Some d)
+module _ (v : EngineView) (is : IsEngine v) (w : EngineView) (view : v ≡ w) (logged' : IsTrue w.coord.whole) (j : ℕ) (whole' : IsWholeAt w j) (below : j < length v.topics) (x : TxnId) (d : Decision) (fits : IsTxnId x) (decided' : decision_of (coord_skeletons w.coord.front) x ≡ Some d)
     (t t' : TopicView) (at : IsTopicAt v j t) (r : Result (Unit {0}) Failed) where
-  whole : IsWhole v
-  whole = subst IsWhole (sym view) whole'
+  logged : IsTrue v.coord.whole
+  logged = subst (λ (z : EngineView). IsTrue z.coord.whole) (sym view) logged'
+
+  whole : IsWholeAt v j
+  whole = subst (λ (z : EngineView). IsWholeAt z j) (sym view) whole'
 
   decided : decision_of (coord_skeletons v.coord.front) x ≡ Some d
   decided = subst (λ (z : EngineView). decision_of (coord_skeletons z.coord.front) x ≡ Some d) (sym view) decided'
@@ -101,7 +111,7 @@ module _ (v : EngineView) (is : IsEngine v) (w : EngineView) (view : v ≡ w) (w
   one = is_topic_at v is j t below at
 
   whole_one : IsTrue t.whole
-  whole_one = subst (λ (k : TopicView). IsTrue k.whole) at (at_index (λ t. IsTrue t.whole) v.topics j (some_topic v) below whole.topics)
+  whole_one = whole_at v j t at whole
 
   at_marker : (o : Option Decision) → marker_of (topic_skeletons t.front) x ≡ o → marker_of (topic_skeletons (get_or v.topics j (some_topic v)).front) x ≡ o
   at_marker o e = ap (λ (k : TopicView). marker_of (topic_skeletons k.front) x) at ∙ e
@@ -136,21 +146,17 @@ module _ (v : EngineView) (is : IsEngine v) (w : EngineView) (view : v ≡ w) (w
     whole_by (follows m ok e) = inl (subst (λ (k : TopicView). IsTrue k.whole) (sym e) whole_one)
     whole_by (fails m err e) = inr err
 
-    module _ (tied : IsTied v) (tie : topic.IsFrontOf t → topic.IsFrontOf t') where
-      tied_after : IsTied u
-      tied_after = record {
-        coord = tied.coord;
-        topics = all_replaced topic.IsFrontOf v.topics j t' (tie (subst topic.IsFrontOf at (at_index topic.IsFrontOf v.topics j (some_topic v) below tied.topics))) tied.topics;
-      }
+    -- the table that it leaves
+    grown_table : t' ≡ with_entries t es 0 → table_of u ≡ with_batch (in_topic (1 + j) es) (table_of v)
+    grown_table e = topic_grown v is j below es (marker_records x d fits) t at whole_one t' 0 e
 
+    failed_table : t' ≡ topic.with_failed_entries t es → table_of u ≡ with_failed_batch (in_topic (1 + j) es) (1 + j) (table_of v)
+    failed_table e = topic_failed v is j below es (marker_records x d fits) t at t' e
+
+    module _ (tied : IsTied v) where
       ok_by : Way same → IsOk r → table_of u ≡ marked x d (1 + j) (table_of v)
-      ok_by (stands m ok e s) is_ok =
-          ap table_of (put_back v j t t' at e) ∙ table_is v is whole tied
-          ∙ stood_table v is j below x d (ap is_some (at_marker (marker_of (topic_skeletons t.front) x) refl) ∙ m) ∙ ap (marked x d (1 + j)) (sym (table_is v is whole tied))
-      ok_by (follows m ok e) is_ok =
-          table_is u engine_is (record { coord = whole.coord; topics = all_replaced (λ t. IsTrue t.whole) v.topics j t' (subst (λ (k : TopicView). IsTrue k.whole) (sym e) whole_one) whole.topics }) tied_after
-          ∙ marked_table v is j below x d whole tied (at_marker None m) t' (ap (λ (k : TopicView). k.front) e ∙ ap (λ (k : TopicView). k.front ++ es) (sym at))
-          ∙ ap (marked x d (1 + j)) (sym (table_is v is whole tied))
+      ok_by (stands m ok e s) is_ok = ap table_of (put_back v j t t' at e) ∙ stood_table v is j below tied whole x d (ap is_some (at_marker (marker_of (topic_skeletons t.front) x) refl) ∙ m)
+      ok_by (follows m ok e) is_ok = marked_table v is j below tied whole x d (at_marker None m) (table_of u) (grown_table e)
       ok_by (fails m err e) is_ok = absurd (ok_no_err r is_ok err)
 
       pub ok_marked : OnOk r (table_of u ≡ marked x d (1 + j) (table_of v))
@@ -159,12 +165,10 @@ module _ (v : EngineView) (is : IsEngine v) (w : EngineView) (view : v ≡ w) (w
       err_by : Way same → IsErr r → (is_none (marker_of (part_skeletons (table_of v).world (1 + j)) x) ≡ true) × (table_of u ≡ with_failed_batch (marker_batch (table_of v) x d (1 + j)) (1 + j) (table_of v))
       err_by (stands m ok e s) err = absurd (ok_no_err r ok err)
       err_by (follows m ok e) err = absurd (ok_no_err r ok err)
-      err_by (fails m err' e) err =
-          let here : table_of v ≡ whole_table v = table_is v is whole tied in (
-            ap (λ (s : TableState). is_none (marker_of (part_skeletons s.world (1 + j)) x)) here ∙ ap (λ k. is_none (marker_of k x)) (skeletons_at v is j below) ∙ ap is_none (at_marker None m),
-            ap (λ (k : TopicView). table_of (with_topics v (replaced v.topics j k))) (e ∙ ap (λ (k : TopicView). topic.with_failed_entries k es) (sym at))
-                ∙ marker_failed v is j below x d whole tied (at_marker None m) fits ∙ ap (λ (s : TableState). with_failed_batch (marker_batch s x d (1 + j)) (1 + j) s) (sym here),
-          )
+      err_by (fails m err' e) err = (
+        ap (λ k. is_none (marker_of k x)) (skeletons_at v is j below tied whole) ∙ ap is_none (at_marker None m),
+        marker_failed v is j below tied whole x d (at_marker None m) (table_of u) (failed_table e),
+      )
 
       pub err_failed : OnErr r ((is_none (marker_of (part_skeletons (table_of v).world (1 + j)) x) ≡ true) × (table_of u ≡ with_failed_batch (marker_batch (table_of v) x d (1 + j)) (1 + j) (table_of v)))
       err_failed = on_err r ((is_none (marker_of (part_skeletons (table_of v).world (1 + j)) x) ≡ true) × (table_of u ≡ with_failed_batch (marker_batch (table_of v) x d (1 + j)) (1 + j) (table_of v))) (err_by way)
@@ -177,7 +181,7 @@ module _ (v : EngineView) (is : IsEngine v) (w : EngineView) (view : v ≡ w) (w
       follows_goes : marker_of (topic_skeletons t.front) x ≡ None → (table_of u ≡ with_batch (in_topic (1 + j) es) (table_of v)) ⊎ (table_of u ≡ with_failed_batch (in_topic (1 + j) es) (1 + j) (table_of v)) → EngineGoesOn on (IsErr r) v u old new
       follows_goes m table =
           topic_goes on v is old new backed j below (IsErr r) (IsErr r) es t' u
-          (subst (λ (k : TopicView). IsTrue k.whole) (sym at) whole_one) (marker_records x d fits) (λ tied. marker_allowed v is j below x d whole tied decided (at_marker None m)) refl refl refl (whole_by way) table
+          (subst (λ (k : TopicView). IsTrue k.whole) (sym at) whole_one) (marker_records x d fits) (λ tied. marker_allowed v is j below tied whole x d (at_marker None m) logged decided) refl refl refl (whole_by way) table
           (λ was. tie (subst topic.IsFrontOf at was)) here (subst (λ (k : TopicView). After on (Appends IsFile StandsIn k.content (topic_batch es)) old new) (sym at) since) (subst (λ (k : TopicView). Elsewhere k.content.key (on.seen old) (on.seen new)) (sym at) others)
           (subst (λ (k : TopicView). FaultsIn on k.content.key.part old new (IsErr r)) (sym at) cause) (λ h. h)
 
@@ -185,8 +189,8 @@ module _ (v : EngineView) (is : IsEngine v) (w : EngineView) (view : v ≡ w) (w
       goes_by (stands m ok e s) =
           subst (λ (d : D). EngineGoesOn on (IsErr r) v u old d) (sym (still s))
           (goes_still on (IsErr r) (ok_no_err r ok) v u old backed refl refl (ap (λ (z : EngineView). z.topics) (put_back v j t t' at e)))
-      goes_by (follows m ok e) = follows_goes m (inl (topic_grown v is j below es (marker_records x d fits) t at whole_one t' 0 e))
-      goes_by (fails m err e) = follows_goes m (inr (topic_failed v is j below es (marker_records x d fits) t at t' e))
+      goes_by (follows m ok e) = follows_goes m (inl (grown_table e))
+      goes_by (fails m err e) = follows_goes m (inr (failed_table e))
 
       pub marked_goes : EngineGoesOn on (IsErr r) v u old new
       marked_goes = goes_by way
@@ -199,18 +203,31 @@ module _ (v : EngineView) (is : IsEngine v) (w : EngineView) (view : v ≡ w) (w
     put : u ≡ u'
     put = ap (λ (ts : List TopicView). with_topics v ts) (sym (set_is v.topics j t'))
 
+    pub marked_clause : OnOk r (is_some (marker_of (topic_skeletons t'.front) x) ≡ true) → OnOk r (IsMarked x u' j)
+    marked_clause there = on_ok r (IsMarked x u' j) (λ a e. subst (λ (z : EngineView). IsMarked x z j) put (marked_now (whole_by way) (is_ok_of r a e)))
+      where
+        here : (d : TopicView) → get_or (replaced v.topics j t') j d ≡ t'
+        here d = at_replaced v.topics j t' d below
+
+        marked_now : IsTrue t'.whole ⊎ IsErr r → IsOk r → IsMarked x u j
+        marked_now (inl now) ok = record {
+          whole = λ d. subst (λ (k : TopicView). IsTrue k.whole) (sym (here d)) now;
+          stands = λ d. ap (λ (k : TopicView). is_some (marker_of (topic_skeletons k.front) x)) (here d) ∙ from_ok_is r ok there;
+        }
+        marked_now (inr err) ok = absurd (ok_no_err r ok err)
+
     pub engine_clause : IsEngine u'
     engine_clause = subst IsEngine put engine_is
 
-    pub ok_clause : IsTied w → (topic.IsFrontOf t → topic.IsFrontOf t') → OnOk r (table_of u' ≡ marked x d (1 + j) (table_of w))
-    ok_clause tied tie =
+    pub ok_clause : IsTied w → OnOk r (table_of u' ≡ marked x d (1 + j) (table_of w))
+    ok_clause tied =
         subst (λ (z : EngineView). OnOk r (table_of u' ≡ marked x d (1 + j) (table_of z))) view
-        (subst (λ (z : EngineView). OnOk r (table_of z ≡ marked x d (1 + j) (table_of v))) put (ok_marked (subst IsTied (sym view) tied) tie))
+        (subst (λ (z : EngineView). OnOk r (table_of z ≡ marked x d (1 + j) (table_of v))) put (ok_marked (subst IsTied (sym view) tied)))
 
-    pub err_clause : IsTied w → (topic.IsFrontOf t → topic.IsFrontOf t') → OnErr r ((is_none (marker_of (part_skeletons (table_of w).world (1 + j)) x) ≡ true) × (table_of u' ≡ with_failed_batch (marker_batch (table_of w) x d (1 + j)) (1 + j) (table_of w)))
-    err_clause tied tie =
+    pub err_clause : IsTied w → OnErr r ((is_none (marker_of (part_skeletons (table_of w).world (1 + j)) x) ≡ true) × (table_of u' ≡ with_failed_batch (marker_batch (table_of w) x d (1 + j)) (1 + j) (table_of w)))
+    err_clause tied =
         subst (λ (z : EngineView). OnErr r ((is_none (marker_of (part_skeletons (table_of z).world (1 + j)) x) ≡ true) × (table_of u' ≡ with_failed_batch (marker_batch (table_of z) x d (1 + j)) (1 + j) (table_of z)))) view
-        (subst (λ (z : EngineView). OnErr r ((is_none (marker_of (part_skeletons (table_of v).world (1 + j)) x) ≡ true) × (table_of z ≡ with_failed_batch (marker_batch (table_of v) x d (1 + j)) (1 + j) (table_of v)))) put (err_failed (subst IsTied (sym view) tied) tie))
+        (subst (λ (z : EngineView). OnErr r ((is_none (marker_of (part_skeletons (table_of v).world (1 + j)) x) ≡ true) × (table_of z ≡ with_failed_batch (marker_batch (table_of v) x d (1 + j)) (1 + j) (table_of v)))) put (err_failed (subst IsTied (sym view) tied)))
 
     pub rose_clause : (f g : ℕ) (fs gs : ℕ → ℕ) → CountsFaults t.content.key.part f g fs gs (IsErr r) → OnErr r (RoseFor f g fs gs (1 + j))
     rose_clause f g fs gs cause = on_err r (RoseFor f g fs gs (1 + j)) (λ err. subst (λ (k : FileId). Rose f g × Rose (fs k.part) (gs k.part)) one.key (cause.failed err))

@@ -1,5 +1,5 @@
 -- The marker of a transaction in a topic, and the table then.
-use Rattle.std.proofs.Common.{◌≡◌, inl, ℕ, ◌+◌, ◌-◌, ◌<◌, ◌==◌, Bool, true, false, if◌then◌else◌, [], ◌∷◌, ◌++◌, length, Option, Some, None, is_some, refl, sym, ap, ◌∙◌, subst, arith}
+use Rattle.std.proofs.Common.{◌≡◌, inl, ℕ, ◌+◌, ◌-◌, ◌<◌, ◌==◌, Bool, true, false, if◌then◌else◌, List, [], ◌∷◌, length, Option, Some, None, is_some, IsTrue, refl, sym, ap, ◌∙◌, subst, arith}
 use Rattle.std.proofs.Math.ListN.{get_or}
 use Rattle.std.proofs.lemmas.Bool.Decides.{nat_tests}
 use Rattle.txn_base.specs.declared.disk.Disk.{Ghosts}
@@ -9,32 +9,28 @@ use Rattle.txn_base.specs.Frames.{Batch as FrameBatch}
 use Rattle.txn_base.proofs.Laws.{started}
 use Rattle.txn_ledger.specs.Ledger.{IsFile, StandsIn, Stored}
 use Rattle.txn_base.specs.Names.{is_sub, is_topic_name}
-use Rattle.txn_base.specs.Records.{IsTxnId}
+use Rattle.txn_base.specs.declared.entry.CoordEntry.{CoordEntry}
 use Rattle.txn_base.specs.declared.entry.TopicEntry.{TopicEntry}
 use Rattle.txn_base.specs.declared.txn.TxnId.{TxnId}
 use Rattle.txn_base.specs.declared.txn.Decision.{Decision}
 use Rattle.txn_base.specs.declared.txn.Decision.TheVariants.{Commit, Abort}
-use Rattle.txn_buffer.proofs.Laws.{marker_records}
-use Rattle.txn_buffer.specs.View as topic
-use Rattle.txn_buffer.specs.View.{TopicView, topic_batch, with_entries}
+use Rattle.txn_buffer.specs.View.{TopicView}
 use Rattle.txn_model.specs.Allowed.{IsAllowed}
 use Rattle.txn_model.specs.Coord.{decision_of}
 use Rattle.txn_model.specs.Names.{name_of}
 use Rattle.txn_model.specs.Skeletons.{coord_skeletons, topic_skeletons}
-use Rattle.txn_model.specs.Table.{EntryBatch, nothing, in_topic, topic_marker, marker_batch, given_after, marked, with_failed_batch, with_batch}
+use Rattle.txn_model.specs.Table.{TableState, EntryBatch, nothing, in_topic, topic_marker, marker_batch, given_after, marked, with_failed_batch, with_batch}
 use Rattle.txn_model.specs.Topic.{marker_of}
 use Rattle.txn_model.specs.Words.{nowhere}
-use Rattle.txn_model.specs.World.{Lawful, part_skeletons}
+use Rattle.txn_model.specs.World.{Lawful, log_of, part_skeletons}
 use Rattle.txn_model.proofs.Laws.Grants.{topic_part, marker_granted}
 use Rattle.txn_records.specs.Topics.{marker_entry}
 use Rattle.txn_engine.specs.Kept.{IsEngine}
 use Rattle.txn_engine.specs.Table.{table_of, world_of}
-use Rattle.txn_engine.specs.View.{EngineView, IsWhole, IsTied, with_topics, replaced}
-use Rattle.txn_engine.proofs.Bodies.{entries_back}
-use Rattle.txn_engine.proofs.Changed.{given_same, topic_added, topic_failed}
-use Rattle.txn_engine.proofs.Lists.{front_at}
+use Rattle.txn_engine.specs.View.{EngineView, IsTied, IsWholeAt}
+use Rattle.txn_engine.proofs.Logged.{log_is, topic_list}
+use Rattle.txn_engine.proofs.Tables.{given_same}
 use Rattle.txn_engine.proofs.TopicNames.{not_sub}
-use Rattle.txn_engine.proofs.Whole.{whole_world, whole_table, world_is}
 use Rattle.txn_engine.proofs.Worlds.{some_topic, name_at_index, stands_settled}
 
 -- ---- The entry.
@@ -76,50 +72,47 @@ module _ (v : EngineView) (is : IsEngine v) (j : ℕ) (below : j < length v.topi
   no_sub : is_sub (name_of v.names (1 + j)) ≡ false
   no_sub = not_sub (name_of v.names (1 + j)) name_form
 
-  pub skeletons_at : part_skeletons (whole_world v) (1 + j) ≡ topic_skeletons at.front
-  skeletons_at = topic_part (whole_world v) (1 + j) no_sub ∙ ap topic_skeletons (front_at 1 v.topics j (some_topic v) (1 + j) refl below)
+  -- where it is rebuilt
+  module _ (tied : IsTied v) (whole : IsWholeAt v j) where
+    pub skeletons_at : part_skeletons (world_of v) (1 + j) ≡ topic_skeletons at.front
+    skeletons_at = topic_part (world_of v) (1 + j) no_sub ∙ ap topic_skeletons (topic_list v is tied j (some_topic v) below (whole (some_topic v)))
 
-  module _ (x : TxnId) (d : Decision) where
-    batch_by : (o : Option Decision) → marker_of (topic_skeletons at.front) x ≡ o → marker_batch (whole_table v) x d (1 + j) ≡ (if is_some o then nothing else in_topic (1 + j) (topic_marker x d ∷ []))
-    batch_by o e = rw (skeletons_at, e, no_sub) refl
+    module _ (x : TxnId) (d : Decision) where
+      batch_by : (o : Option Decision) → marker_of (topic_skeletons at.front) x ≡ o → marker_batch (table_of v) x d (1 + j) ≡ (if is_some o then nothing else in_topic (1 + j) (topic_marker x d ∷ []))
+      batch_by o e = rw (skeletons_at, e, no_sub) refl
 
-    pub batch_is : marker_of (topic_skeletons at.front) x ≡ None → marker_batch (whole_table v) x d (1 + j) ≡ in_topic (1 + j) (marker_entry x d ∷ [])
-    batch_is none = batch_by None none ∙ ap (λ (e : TopicEntry). in_topic (1 + j) (e ∷ [])) (sym (entry_is x d))
+      pub batch_is : marker_of (topic_skeletons at.front) x ≡ None → marker_batch (table_of v) x d (1 + j) ≡ in_topic (1 + j) (marker_entry x d ∷ [])
+      batch_is none = batch_by None none ∙ ap (λ (e : TopicEntry). in_topic (1 + j) (e ∷ [])) (sym (entry_is x d))
 
-    no_batch : (o : Option Decision) → marker_of (topic_skeletons at.front) x ≡ o → is_some o ≡ true → marker_batch (whole_table v) x d (1 + j) ≡ nothing
-    no_batch None e some = absurd (never some)
-      where
-        never : false ≡ true → ⊥
-        never e = cc
-    no_batch (Some k) e some = batch_by (Some k) e
+      no_batch : (o : Option Decision) → marker_of (topic_skeletons at.front) x ≡ o → is_some o ≡ true → marker_batch (table_of v) x d (1 + j) ≡ nothing
+      no_batch None e some = absurd (never some)
+        where
+          never : false ≡ true → ⊥
+          never e = cc
+      no_batch (Some k) e some = batch_by (Some k) e
 
-    given_is : (d : Decision) → given_after (whole_table v) x d (1 + j) ≡ (λ (s : ℕ). nowhere)
-    given_is Commit = refl
-    given_is Abort = given_same (1 + j)
+      given_is : (d : Decision) → given_after (table_of v) x d (1 + j) ≡ (λ (s : ℕ). nowhere)
+      given_is Commit = refl
+      given_is Abort = given_same (1 + j)
 
-    marked_by : (b : EntryBatch) → marker_batch (whole_table v) x d (1 + j) ≡ b → with_batch b (whole_table v) ≡ marked x d (1 + j) (whole_table v)
-    marked_by b e = λ i. record (with_batch (sym e i) (whole_table v)) { given = sym (given_is d) i }
+      marked_by : (b : EntryBatch) → marker_batch (table_of v) x d (1 + j) ≡ b → with_batch b (table_of v) ≡ marked x d (1 + j) (table_of v)
+      marked_by b e = λ i. record (with_batch (sym e i) (table_of v)) { given = sym (given_is d) i }
 
-    -- it stands there already
-    pub stood_table : is_some (marker_of (topic_skeletons at.front) x) ≡ true → whole_table v ≡ marked x d (1 + j) (whole_table v)
-    stood_table some = marked_by nothing (no_batch (marker_of (topic_skeletons at.front) x) refl some)
+      -- it stands there already
+      pub stood_table : is_some (marker_of (topic_skeletons at.front) x) ≡ true → table_of v ≡ marked x d (1 + j) (table_of v)
+      stood_table some = marked_by nothing (no_batch (marker_of (topic_skeletons at.front) x) refl some)
 
-    module _ (whole : IsWhole v) (tied : IsTied v) (none : marker_of (topic_skeletons at.front) x ≡ None) where
-      -- it follows
-      pub marked_table : (t : TopicView) → t.front ≡ at.front ++ marker_entry x d ∷ [] → whole_table (with_topics v (replaced v.topics j t)) ≡ marked x d (1 + j) (whole_table v)
-      marked_table t front = topic_added v is whole tied j (some_topic v) below (marker_entry x d ∷ []) t front ∙ marked_by (in_topic (1 + j) (marker_entry x d ∷ [])) (batch_is none)
+      module _ (none : marker_of (topic_skeletons at.front) x ≡ None) where
+        -- it follows
+        pub marked_table : (t' : TableState) → t' ≡ with_batch (in_topic (1 + j) (marker_entry x d ∷ [])) (table_of v) → t' ≡ marked x d (1 + j) (table_of v)
+        marked_table t' grown = grown ∙ marked_by (in_topic (1 + j) (marker_entry x d ∷ [])) (batch_is none)
 
-      -- its append failed
-      pub marker_failed : IsTxnId x → table_of (with_topics v (replaced v.topics j (topic.with_failed_entries at (marker_entry x d ∷ [])))) ≡ with_failed_batch (marker_batch (whole_table v) x d (1 + j)) (1 + j) (whole_table v)
-      marker_failed fits =
-          topic_failed v is whole tied j (some_topic v) below (marker_entry x d ∷ []) (entries_back (marker_entry x d ∷ []) (marker_records x d fits))
-          ∙ ap (λ (b : EntryBatch). with_failed_batch b (1 + j) (whole_table v)) (sym (batch_is none))
+        -- its append failed
+        pub marker_failed : (t' : TableState) → t' ≡ with_failed_batch (in_topic (1 + j) (marker_entry x d ∷ [])) (1 + j) (table_of v) → t' ≡ with_failed_batch (marker_batch (table_of v) x d (1 + j)) (1 + j) (table_of v)
+        marker_failed t' failed = failed ∙ ap (λ (b : EntryBatch). with_failed_batch b (1 + j) (table_of v)) (sym (batch_is none))
 
-    -- ---- It is allowed over a lawful world.
-
-    pub marker_allowed : IsWhole v → IsTied v → decision_of (coord_skeletons v.coord.front) x ≡ Some d → marker_of (topic_skeletons at.front) x ≡ None → Lawful (world_of v) → IsAllowed (in_topic (1 + j) (marker_entry x d ∷ [])) (world_of v)
-    marker_allowed whole tied decided none lawful =
-        let same : world_of v ≡ whole_world v = world_is v is whole tied in
-        subst (IsAllowed (in_topic (1 + j) (marker_entry x d ∷ []))) (sym same)
-        (subst (λ (b : EntryBatch). IsAllowed b (whole_world v)) (batch_is none)
-        (marker_granted (whole_table v) x d (1 + j) (subst Lawful same lawful) (omega arith) (omega (arith, below, is.count)) decided).allowed)
+        -- it is allowed over a lawful world
+        pub marker_allowed : IsTrue v.coord.whole → decision_of (coord_skeletons v.coord.front) x ≡ Some d → Lawful (world_of v) → IsAllowed (in_topic (1 + j) (marker_entry x d ∷ [])) (world_of v)
+        marker_allowed logged decided lawful =
+            let said : decision_of (log_of (world_of v)) x ≡ Some d = ap (λ (es : List CoordEntry). decision_of (coord_skeletons es) x) (log_is v is logged tied) ∙ decided in
+            subst (λ (b : EntryBatch). IsAllowed b (world_of v)) (batch_is none) (marker_granted (table_of v) x d (1 + j) lawful (omega arith) (omega (arith, below, is.count)) said).allowed

@@ -16,17 +16,17 @@ use Rattle.txn_model.specs.Names.{NamesLawful}
 use Rattle.txn_model.specs.Opening.{table_over}
 use Rattle.txn_model.specs.Sound.{ledger_file, StandsFor}
 use Rattle.txn_model.specs.Words.{nowhere}
-use Rattle.txn_model.specs.World.{no_flights}
 use Rattle.txn_buffer.specs.View.{TopicView}
 use Rattle.txn_buffer.specs.View as topic
 use Rattle.txn_coordinator.specs.View.{CoordView}
 use Rattle.txn_engine.specs.Kept.{IsCoordinator, IsTopic, AreTopics, IsEngine}
 use Rattle.txn_engine.specs.Opening.{IsCoordinatorOf, IsTopicOf, IsTopicLedger, IsPart, AreParts, IsDamagedTopic, IsDamagedPart, IsFirstDamage, IsFirstDamagedTopic, IsPartFile}
-use Rattle.txn_engine.specs.Table.{table_of}
+use Rattle.txn_engine.specs.Table.{world_of, table_of}
 use Rattle.txn_engine.specs.View.{EngineView, IsWhole, IsTied}
 use Rattle.txn_engine.proofs.Elsewhere.{files_apart}
 use Rattle.txn_engine.proofs.Lists.{topic_at, at_index}
-use Rattle.txn_engine.proofs.Whole.{whole_table, world_is, table_is, whole_world}
+use Rattle.txn_engine.proofs.Logged.{log_is}
+use Rattle.txn_engine.proofs.Opened.{nothing_flies, not_unrebuilt}
 use Rattle.txn_engine.proofs.Worlds.{AllStand, world_here}
 
 -- ---- One topic more.
@@ -150,9 +150,14 @@ module _ (names : List (List ℕ)) (limits : Limits) (c : CoordView) (ts : List 
 
     pub opened_table : (w : World) → StandsFor names files w → table_of opened_engine ≡ table_over w
     opened_table w stands =
-        let same : w ≡ whole_world opened_engine = world_here opened_engine is files log_here (all_stand ts told) w stands ∙ world_is opened_engine is whole tied in
-        let front : low_of w.coord ≡ low_of c.front = ap (λ (u : World). low_of u.coord) same in
-        table_is opened_engine is whole tied ∙ here (sym same) (low ∙ sym front)
-      where
-        here : whole_world opened_engine ≡ w → c.opened_low ≡ low_of w.coord → whole_table opened_engine ≡ table_over w
-        here world low_is i = record { world = world i; flights = no_flights; unrebuilt = nowhere; latest = 0; opened_low = low_is i; given = λ s. nowhere }
+        let same : w ≡ world_of opened_engine = world_here opened_engine is files log_here (all_stand ts told) w stands in
+        let front : low_of w.coord ≡ low_of c.front = ap (λ (u : World). low_of u.coord) same ∙ ap low_of (log_is opened_engine is whole.coord tied) in
+        let low_is : c.opened_low ≡ low_of w.coord = low ∙ sym front in
+        λ i. record {
+          world = sym same i;
+          flights = nothing_flies opened_engine is whole i;
+          unrebuilt = λ p. not_unrebuilt opened_engine whole p i;
+          latest = 0;
+          opened_low = low_is i;
+          given = λ s. nowhere;
+        }

@@ -16,7 +16,7 @@ use Rattle.txn_coordinator.specs.Mending.{IsSettledFrom, IsFirstBadRecord, AreRe
 use Rattle.txn_coordinator.specs.View.{CoordView, coord_total}
 use Rattle.txn_engine.specs.Kept.{IsCoordinator}
 use Rattle.txn_engine.specs.Opening.{IsDamagedLog, IsCoordinatorOf}
-use Rattle.txn_engine.proofs.Whole.{coord_front}
+use Rattle.txn_engine.proofs.Logged.{coord_front}
 
 -- The coordinator of n named parts is under these limits, nothing is in flight, and its front is lawful and within its log:
 -- where it is whole, all of it, and the low watermark is that of the opening.

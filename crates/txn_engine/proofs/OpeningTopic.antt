@@ -21,7 +21,7 @@ use Rattle.txn_engine.specs.declared.opening.EngineError.TheVariants as engine
 use Rattle.txn_engine.specs.Kept.{IsTopic}
 use Rattle.txn_engine.specs.Opening.{IsDamagedTopic, IsTopicOf}
 use Rattle.txn_engine.specs.Unopened.{unopened, unmended}
-use Rattle.txn_engine.proofs.Whole.{topic_front}
+use Rattle.txn_engine.proofs.Logged.{topic_front}
 
 -- The topic is the part p under these limits, nothing is in flight, and its front is within its ledger: where it is whole,
 -- all of it.

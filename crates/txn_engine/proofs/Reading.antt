@@ -1,5 +1,5 @@
 -- What an engine tells of a read, and how it goes on through one.
-use Rattle.std.proofs.Common.{◌≡◌, ◌⊎◌, inl, inr, ℕ, ◌+◌, ◌-◌, ◌<◌, ◌≤◌, List, [], ◌∷◌, length, Some, None, All, refl, sym, ap, ap₂, ◌∙◌, subst, arith}
+use Rattle.std.proofs.Common.{◌≡◌, ◌⊎◌, inl, inr, ℕ, ◌+◌, ◌-◌, ◌<◌, ◌≤◌, List, [], ◌∷◌, length, Some, None, All, IsTrue, refl, sym, ap, ap₂, ◌∙◌, subst, arith}
 use Rattle.std.proofs.Math.ListN.{get_or}
 use Rattle.std.proofs.lemmas.List.{get_or_default}
 use Rattle.std.proofs.lemmas.List.Elements.{All-head, All-tail, All-cons, All-nil}
@@ -9,6 +9,7 @@ use Rattle.txn_base.specs.declared.file_id.FileId.{FileId}
 use Rattle.txn_base.specs.declared.limits.Limits.{Limits}
 use Rattle.txn_base.specs.declared.entry.TopicEntry.{TopicEntry}
 use Rattle.txn_base.specs.declared.messages.Message.{Message}
+use Rattle.txn_base.specs.declared.request.Request.{Request}
 use Rattle.txn_base.specs.declared.request.Request.TheVariants as request
 use Rattle.txn_base.specs.declared.reply.Reply.{Reply}
 use Rattle.txn_base.specs.declared.reply.Reply.TheVariants as reply
@@ -22,7 +23,6 @@ use Rattle.txn_model.specs.Allowed.{LawfulState}
 use Rattle.txn_model.specs.Answers.{Answers}
 use Rattle.txn_model.specs.Names.{part_of}
 use Rattle.txn_model.specs.Sound.{ledger_file}
-use Rattle.txn_model.specs.Table.{TableState}
 use Rattle.txn_model.specs.Topic.{limit_of, read_slice}
 use Rattle.txn_buffer.specs.View.{TopicView, IsFrontOf}
 use Rattle.txn_wire.specs.Short.{IsPartName}
@@ -30,7 +30,7 @@ use Rattle.txn_engine.specs.Above.{StandsAbove, KeepsAboveIf}
 use Rattle.txn_engine.specs.Kept.{IsTopic, IsEngine}
 use Rattle.txn_engine.specs.Table.{table_of}
 use Rattle.txn_engine.specs.Told.{MayTell, RoseFor, EngineGoesOn}
-use Rattle.txn_engine.specs.View.{EngineView, IsWhole, IsTied, IsBacked}
+use Rattle.txn_engine.specs.View.{EngineView, IsTied, IsBacked, IsWholeAt, IsWholeTopic}
 use Rattle.txn_engine.proofs.Begun.{short_told, row_told, memory_told}
 use Rattle.txn_engine.proofs.Files.{only_none, images_same}
 use Rattle.txn_engine.proofs.Going.{counts_of}
@@ -38,7 +38,6 @@ use Rattle.txn_engine.proofs.Growing.{files_same, worlds_same}
 use Rattle.txn_engine.proofs.Lists.{topic_at, at_index}
 use Rattle.txn_engine.proofs.TopicNames.{part_name}
 use Rattle.txn_engine.proofs.TopicRows.{Knows, knows, unknown_read, read_told, read_fault_told}
-use Rattle.txn_engine.proofs.Whole.{whole_table, table_is}
 use Rattle.txn_engine.proofs.Worlds.{IsTopicAt, some_topic}
 
 -- ---- The topic at an index.
@@ -64,43 +63,49 @@ known_name v is topic p named known same = subst IsPartName (sym same) (part_nam
 pub rose_at : (key : FileId) (q f g : ℕ) (fs gs : ℕ → ℕ) → key ≡ ledger_file q → Rose f g × Rose (fs key.part) (gs key.part) → RoseFor f g fs gs q
 rose_at key q f g fs gs e rose = subst (λ (k : FileId). Rose f g × Rose (fs k.part) (gs k.part)) e rose
 
+-- a topic that is rebuilt
+pub whole_at : (v : EngineView) (j : ℕ) (t : TopicView) → IsTopicAt v j t → IsWholeAt v j → IsTrue t.whole
+whole_at v j t at whole = subst (λ (u : TopicView). IsTrue u.whole) at (whole (some_topic v))
+
+pub whole_known : (v w : EngineView) → v ≡ w → (topic : List ℕ) (p : ℕ) → Knows v topic p (p - 1) → (t : TopicView) → t ≡ get_or v.topics (p - 1) t → IsWholeTopic w topic → IsTrue t.whole
+whole_known v w view topic p found t e whole = whole_at v (p - 1) t (at_known v topic p (p - 1) found t e) (subst (λ (z : EngineView). IsWholeTopic z topic) (sym view) whole p found.part)
+
 -- ---- What is told.
 
-module _ (v : EngineView) (is : IsEngine v) (whole : IsWhole v) (tied : IsTied v) (f g : ℕ) (fs gs : ℕ → ℕ) (topic : List ℕ) (first max m : ℕ) where
+module _ (v : EngineView) (f g : ℕ) (fs gs : ℕ → ℕ) (topic : List ℕ) (first max m : ℕ) where
   abbrev rose : ℕ → Type 0
   rose = RoseFor f g fs gs
 
-  pub unknown_read_told : part_of v.names topic ≡ None → (told : Reply) → (told ≡ reply.No (no.UnknownPart topic)) ⊎ (told ≡ reply.No no.NoMemory) → MayTell f g fs gs v (request.Read topic first max) m told v
-  unknown_read_told none told (inl e) =
-      subst (λ (r : Reply). MayTell f g fs gs v (request.Read topic first max) m r v) (sym e)
-      (record { answers = row_told v is whole tied v.limits rose (request.Read topic first max) (no.UnknownPart topic) (unknown_read v.limits v topic first max none); instead = λ long. memory_told v is whole tied v.limits rose (request.Read topic first max) })
-  unknown_read_told none told (inr e) =
-      subst (λ (r : Reply). MayTell f g fs gs v (request.Read topic first max) m r v) (sym e)
-      (short_told f g fs gs v (request.Read topic first max) m (reply.No no.NoMemory) v refl (memory_told v is whole tied v.limits rose (request.Read topic first max)))
+  abbrev asked : Request
+  asked = request.Read topic first max
 
-  module _ (p : ℕ) (known : part_of v.names topic ≡ Some p) (t : TopicView) (at : IsTopicAt v (p - 1) t) where
+  pub unknown_read_told : part_of v.names topic ≡ None → (told : Reply) → (told ≡ reply.No (no.UnknownPart topic)) ⊎ (told ≡ reply.No no.NoMemory) → MayTell f g fs gs v asked m told v
+  unknown_read_told none told (inl e) =
+      subst (λ (r : Reply). MayTell f g fs gs v asked m r v) (sym e)
+      (record { answers = row_told v v.limits rose asked (no.UnknownPart topic) (unknown_read v.limits v topic first max none); instead = λ long. memory_told v v.limits rose asked })
+  unknown_read_told none told (inr e) =
+      subst (λ (r : Reply). MayTell f g fs gs v asked m r v) (sym e) (short_told f g fs gs v asked m (reply.No no.NoMemory) v refl (memory_told v v.limits rose asked))
+
+  module _ (is : IsEngine v) (p : ℕ) (known : part_of v.names topic ≡ Some p) (t : TopicView) (at : IsTopicAt v (p - 1) t) (whole : IsWholeAt v (p - 1)) where
     here : Knows v topic p (p - 1)
     here = knows v is topic p known
 
     one : IsTopic v.limits (1 + (p - 1)) t
     one = is_topic_at v is (p - 1) t here.below at
 
-    in_table : (told : Reply) → Answers v.limits rose (whole_table v) (request.Read topic first max) told (whole_table v) → MayTell f g fs gs v (request.Read topic first max) m told v
-    in_table told h = record {
-      answers = subst (λ (s : TableState). Answers v.limits rose s (request.Read topic first max) told s) (sym (table_is v is whole tied)) h;
-      instead = λ long. memory_told v is whole tied v.limits rose (request.Read topic first max);
-    }
+    in_table : (told : Reply) → Answers v.limits rose (table_of v) asked told (table_of v) → MayTell f g fs gs v asked m told v
+    in_table told h = record { answers = h; instead = λ long. memory_told v v.limits rose asked }
 
-    pub read_answer : (limit : ℕ) (messages : List Message) → limit ≡ limit_of t.front → messages ≡ read_slice t.limits t.front first max → MayTell f g fs gs v (request.Read topic first max) m (reply.Read limit messages) v
-    read_answer limit messages l e =
+    pub read_answer : IsTied v → (limit : ℕ) (messages : List Message) → limit ≡ limit_of t.front → messages ≡ read_slice t.limits t.front first max → MayTell f g fs gs v asked m (reply.Read limit messages) v
+    read_answer tied limit messages l e =
         in_table (reply.Read limit messages)
-        (read_told v.limits rose v topic p (p - 1) here first max limit messages
+        (read_told v.limits rose v topic p (p - 1) here (whole (some_topic v)) first max is tied limit messages
         (l ∙ ap (λ (u : TopicView). limit_of u.front) (sym at))
         (e ∙ ap₂ (λ (x : Limits) (es : List TopicEntry). read_slice x es first max) one.limits_are (ap (λ (u : TopicView). u.front) (sym at))))
 
-    pub read_fault_answer : (named : List ℕ) → named ≡ topic → Rose f g × Rose (fs t.content.key.part) (gs t.content.key.part) → MayTell f g fs gs v (request.Read topic first max) m (reply.No (no.Fault named)) v
+    pub read_fault_answer : (named : List ℕ) → named ≡ topic → Rose f g × Rose (fs t.content.key.part) (gs t.content.key.part) → MayTell f g fs gs v asked m (reply.No (no.Fault named)) v
     read_fault_answer named same cause =
-        in_table (reply.No (no.Fault named)) (read_fault_told v.limits rose v topic p (p - 1) here first max named same (rose_at t.content.key (1 + (p - 1)) f g fs gs one.key cause))
+        in_table (reply.No (no.Fault named)) (read_fault_told v.limits rose v topic p (p - 1) here (whole (some_topic v)) first max named same (rose_at t.content.key (1 + (p - 1)) f g fs gs one.key cause))
 
 -- ---- Nothing changes.
 

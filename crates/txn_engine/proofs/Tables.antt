@@ -15,12 +15,28 @@ use Rattle.txn_model.specs.Words.{append_at, set_at, nowhere, list_at}
 use Rattle.txn_model.proofs.Laws.Files.{coord_decoded}
 use Rattle.txn_buffer.specs.View as topic
 use Rattle.txn_buffer.specs.View.{TopicView, topic_batch, with_entries}
-use Rattle.txn_coordinator.specs.View as coordinator
-use Rattle.txn_coordinator.specs.View.{CoordView, coord_batch, with_entry, reserving}
+use Rattle.txn_coordinator.specs.View.{CoordView, coord_batch, with_entry, with_failed_entry, reserving}
+use Rattle.txn_engine.specs.Kept.{IsEngine}
 use Rattle.txn_engine.specs.Table.{coord_flight, topic_flight, lists_from, flights_from, unrebuilt_from, table_of}
 use Rattle.txn_engine.specs.View.{EngineView, with_coord, with_topics, replaced}
-use Rattle.txn_engine.proofs.Changed.{coord_entries_more, topic_entries_more, given_same}
 use Rattle.txn_engine.proofs.Lists.{lists_more, lists_replaced, flights_still, flights_set, unrebuilt_still, unrebuilt_set}
+
+-- ---- Entries of a batch more.
+
+pub coord_entries_more : (bs more : List FrameBatch) → coord_entries (bs ++ more) ≡ coord_entries bs ++ coord_entries more
+coord_entries_more bs more = ap (map coord_entry_of) (flat_map-append (λ (b : FrameBatch). b) bs more) ∙ map-append coord_entry_of (records bs) (records more)
+
+pub topic_entries_more : (bs more : List FrameBatch) → topic_entries (bs ++ more) ≡ topic_entries bs ++ topic_entries more
+topic_entries_more bs more = ap (map topic_entry_of) (flat_map-append (λ (b : FrameBatch). b) bs more) ∙ map-append topic_entry_of (records bs) (records more)
+
+-- ---- A part that has failed isn't rebuilt, and no place of it is delivered.
+
+pub given_same : (p : ℕ) → set_at (λ (s : ℕ). nowhere) p nowhere ≡ (λ (s : ℕ). nowhere)
+given_same p = λ i s. at (s == p) i
+  where
+    at : (b : Bool) → (if b then nowhere else nowhere) ≡ nowhere
+    at true = refl
+    at false = refl
 
 module _ (v : EngineView) where
   -- ---- The coordinator.
@@ -45,7 +61,7 @@ module _ (v : EngineView) where
         }
 
     -- where the append of an entry failed
-    pub coord_fails : table_of (with_coord v (coordinator.with_failed_entry v.coord e)) ≡ with_failed_batch (in_coord e) 0 (table_of v)
+    pub coord_fails : table_of (with_coord v (with_failed_entry v.coord e)) ≡ with_failed_batch (in_coord e) 0 (table_of v)
     coord_fails = λ i. record {
       world = record { names = v.names; coord = coord_entries v.coord.content.batches; topics = lists_from 1 v.topics; subs = [] };
       flights = record { coord = one_entry i; topics = λ p. list_at (flights_from 1 v.topics) p; subs = λ p. [] };
@@ -115,3 +131,10 @@ module _ (v : EngineView) where
                 ≡ (if p == (1 + j) then true else (if p == 0 then not v.coord.whole else unrebuilt_from 1 v.topics p))
             by_test true e = rw (e, zero_not p e) refl
             by_test false e = rw e (unrebuilt_set 1 v.topics j (topic.with_failed_entries at es) (1 + j) refl below p)
+
+-- ---- The table by the coordinator that an engine has then.
+pub table_grown : (v : EngineView) → IsEngine v → (e : CoordEntry) → IsCoordEntry e → IsTrue v.coord.whole → (c' : CoordView) (k : ℕ) → c' ≡ reserving k (with_entry v.coord e) → table_of (with_coord v c') ≡ with_batch (in_coord e) (table_of v)
+table_grown v is e fits whole c' k now = ap (λ (c : CoordView). table_of (with_coord v c)) now ∙ coord_follows v e fits (is.coord.settled_is whole) k
+
+pub table_failed : (v : EngineView) → IsEngine v → (e : CoordEntry) → IsCoordEntry e → IsTrue v.coord.whole → (c' : CoordView) → c' ≡ with_failed_entry v.coord e → table_of (with_coord v c') ≡ with_failed_batch (in_coord e) 0 (table_of v)
+table_failed v is e fits whole c' now = ap (λ (c : CoordView). table_of (with_coord v c)) now ∙ coord_fails v e fits (is.coord.settled_is whole)

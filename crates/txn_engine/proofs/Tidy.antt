@@ -14,7 +14,7 @@ use Rattle.txn_engine.specs.Kept.{IsEngine}
 use Rattle.txn_engine.specs.Table.{unrebuilt_from, table_of}
 use Rattle.txn_engine.specs.View.{EngineView, IsWhole, IsBacked}
 use Rattle.txn_engine.proofs.Lists.{topic_at, at_index, unrebuilt_in}
-use Rattle.txn_engine.proofs.MarkLoop.{not_unrebuilt}
+use Rattle.txn_engine.proofs.Opened.{not_unrebuilt}
 use Rattle.txn_engine.proofs.Worlds.{some_topic}
 
 is_whole : (b : Bool) → not b ≡ false → IsTrue b

@@ -18,7 +18,7 @@ use Rattle.txn_model.specs.Topic.{marker_of}
 use Rattle.txn_buffer.specs.Ending.{with_reserved}
 use Rattle.txn_buffer.specs.View.{TopicView}
 use Rattle.txn_coordinator.specs.View.{reserving}
-use Rattle.txn_engine.specs.View.{EngineView}
+use Rattle.txn_engine.specs.View.{EngineView, IsWholeAt}
 use Rattle.txn_wire.specs.Short.{IsShortStuck}
 
 -- The request for an end by this decision.
@@ -50,9 +50,14 @@ pub record IsReady (x : TxnId) (v : EngineView) : Type 0 where
   pub coord : v.coord.reserved ≡ 1
   pub topics : AreReady x v (length v.topics)
 
--- At each part of x before the index n there is a marker of it.
+-- The topic at an index is rebuilt and has a marker of x.
+pub record IsMarked (x : TxnId) (v : EngineView) (j : ℕ) : Type 0 where
+  pub whole : IsWholeAt v j
+  pub stands : (t : TopicView) → is_some (marker_of (topic_skeletons (slice_index_or v.topics j t).front) x) ≡ true
+
+-- So is each part of x before the index n.
 abbrev pub AreMarked : TxnId → EngineView → ℕ → Type 0
-AreMarked x v n = (j : ℕ) (t : TopicView) → j < n → j < length v.topics → in_parts (coord_skeletons v.coord.front) x (1 + j) ≡ true → is_some (marker_of (topic_skeletons (slice_index_or v.topics j t).front) x) ≡ true
+AreMarked x v n = (j : ℕ) → j < n → j < length v.topics → in_parts (coord_skeletons v.coord.front) x (1 + j) ≡ true → IsMarked x v j
 
 -- A call for the topic at an index leaves all else as it was.
 pub record IsElsewhere (at : ℕ) (v v' : EngineView) : Type 0 where

@@ -1,5 +1,6 @@
 -- What an engine is seen as.
-use Rattle.std.specs.Prelude.{ℕ, zero, suc, List, [], ◌∷◌, All, IsTrue}
+use Rattle.std.specs.Prelude.{◌≡◌, ℕ, zero, suc, ◌-◌, List, [], ◌∷◌, All, IsTrue, Option, Some, None, slice_index_or}
+use Rattle.txn_base.specs.declared.txn.TxnId.{TxnId}
 use Rattle.txn_base.specs.declared.limits.Limits.{Limits}
 use Rattle.txn_base.specs.Disk.{Files}
 use Rattle.txn_coordinator.specs.View as coordinator
@@ -7,6 +8,7 @@ use Rattle.txn_coordinator.specs.View.{CoordView}
 use Rattle.txn_buffer.specs.View as topic
 use Rattle.txn_buffer.specs.View.{TopicView}
 use Rattle.txn_ledger.specs.Ledger.{Stored}
+use Rattle.txn_model.specs.Names.{part_of}
 
 -- The names of its parts, which are topics, numbered from 1; its coordinator; the topics, in order of their number; the
 -- greatest moment told; and the bounds.
@@ -44,3 +46,16 @@ pub record IsTied (v : EngineView) : Type 0 where
 pub record IsBacked (image : Files → Type 0) (v : EngineView) : Type 0 where
   pub coord : Stored image v.coord.content
   pub topics : All (λ t. Stored image t.content) v.topics
+
+-- What a line uses is rebuilt: the coordinator, where it is of a transaction.
+abbrev pub UsesLog : EngineView → Option TxnId → Type 0
+UsesLog v None = Unit {0}
+UsesLog v (Some x) = IsTrue v.coord.whole
+
+-- The topic at an index is rebuilt.
+abbrev pub IsWholeAt : EngineView → ℕ → Type 0
+IsWholeAt v j = (d : TopicView) → IsTrue (slice_index_or v.topics j d).whole
+
+-- So is the topic of this name, if there is one.
+abbrev pub IsWholeTopic : EngineView → List ℕ → Type 0
+IsWholeTopic v topic = (number : ℕ) → part_of v.names topic ≡ Some number → IsWholeAt v (number - 1)

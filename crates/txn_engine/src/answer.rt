@@ -95,6 +95,7 @@ impl Engine {
         ensures limits { self.new.limits ≡ self.old.limits }
         ensures goes { EngineGoesOn D.Disk (is_fault result ≡ true) self.old self.new disk.old disk.new }
     {
+        self.kept();
         match request {
             Request::New { timeout } => self.begin(disk, now, *timeout),
             Request::Add { txn, part } => self.add(disk, *txn, part),

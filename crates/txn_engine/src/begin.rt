@@ -1,5 +1,5 @@
 //! Beginning a transaction, adding a part to one, and its status.
-ghost use Rattle.std.specs.Prelude.{◌≡◌, ◌≤◌, ℕ, true, false, None, IfSome};
+ghost use Rattle.std.specs.Prelude.{◌≡◌, ◌≤◌, ℕ, true, false, None, IfSome, IsTrue};
 ghost use Rattle.txn_base.specs.Moves.{RoseIn};
 ghost use Rattle.txn_base.specs.declared.request.Request.TheVariants as request;
 ghost use Rattle.txn_engine.specs.Causes.{TellsEarly};
@@ -8,7 +8,7 @@ ghost use Rattle.txn_engine.specs.Faults.{fault_name, RoseByName};
 ghost use Rattle.txn_engine.specs.Refusals.{begun_reply, added_reply};
 ghost use Rattle.txn_engine.specs.Table.{world_of};
 ghost use Rattle.txn_engine.specs.Told.{MayTell, IsTellable, EngineGoesOn, MayTellOn};
-ghost use Rattle.txn_engine.specs.View.{IsWhole, IsTied, IsBacked};
+ghost use Rattle.txn_engine.specs.View.{IsTied, IsBacked};
 ghost use Rattle.txn_model.specs.EarlyRows.{is_bad_timeout};
 ghost use Rattle.txn_model.specs.Replies.{is_fault};
 
@@ -24,7 +24,7 @@ const LAST: u64 = 1 << 62;
 impl Engine {
     /// Begins a transaction at this moment, which counts from then on as told, also where it is refused.
     pub(crate) fn begin<D: Disk>(&mut self, disk: &mut D, now: u64, timeout: u64) -> Reply
-        requires whole { IsWhole self.old }
+        requires whole { IsTrue self.old.coord.whole }
         requires backed { IsBacked (D.image disk.old) self.old }
         ensures told { D.tells → IsTied self.old → MayTellOn D.Disk disk.old disk.new self.old (request.New timeout) now result self.new }
         ensures tellable { IsTellable result }
@@ -49,7 +49,7 @@ impl Engine {
 
     /// Adds a part to an open transaction.
     pub(crate) fn add<D: Disk>(&mut self, disk: &mut D, txn: TxnId, part: &Text) -> Reply
-        requires whole { IsWhole self.old }
+        requires whole { IsTrue self.old.coord.whole }
         requires backed { IsBacked (D.image disk.old) self.old }
         ensures told { D.tells → IsTied self.old → (now : ℕ) → MayTellOn D.Disk disk.old disk.new self.old (request.Add txn part.now) now result self.new }
         ensures tellable { IsTellable result }
@@ -74,7 +74,7 @@ impl Engine {
 
     /// How far a transaction is.
     pub(crate) fn status(&self, txn: TxnId) -> Reply
-        requires whole { IsWhole self.now }
+        requires whole { IsTrue self.now.coord.whole }
         ensures told { (before now : ℕ) (parts_before parts_now : ℕ → ℕ) → IsTied self.now → (moment : ℕ) → MayTell before now parts_before parts_now self.now (request.Status txn) moment result self.now }
         ensures tellable { IsTellable result }
         ensures early { TellsEarly self.now.limits (world_of self.now) (request.Status txn) result }

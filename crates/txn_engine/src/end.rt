@@ -11,13 +11,13 @@ ghost use Rattle.txn_ledger.specs.Ledger.{StandsIn, IsFile, Stored};
 ghost use Rattle.txn_records.specs.Topics.{marker_entry};
 ghost use Rattle.txn_engine.specs.Causes.{TellsEarly};
 ghost use Rattle.txn_engine.specs.Damage.{is_damage};
-ghost use Rattle.txn_engine.specs.Ending.{end_request, IsSameBut, AreReady, IsReady, AreMarked, IsElsewhere, IsTellableEnd, IsGranted};
+ghost use Rattle.txn_engine.specs.Ending.{end_request, IsSameBut, AreReady, IsReady, IsMarked, AreMarked, IsElsewhere, IsTellableEnd, IsGranted};
 ghost use Rattle.txn_engine.specs.Faults.{stuck_name, fault_name, RoseByName};
 ghost use Rattle.txn_engine.specs.Kept.{IsEngine};
 ghost use Rattle.txn_engine.specs.Refusals.{coord_refusal};
 ghost use Rattle.txn_engine.specs.Table.{table_of, world_of};
 ghost use Rattle.txn_engine.specs.Told.{IsTellable, EngineGoesOn, MayTellOn};
-ghost use Rattle.txn_engine.specs.View.{IsWhole, IsTied, IsBacked};
+ghost use Rattle.txn_engine.specs.View.{IsWhole, IsTied, IsBacked, IsWholeAt};
 ghost use Rattle.txn_model.specs.Coord.{decision_of, closing_of, parts_of, closed, deciding};
 ghost use Rattle.txn_model.specs.Deadlines.{is_closed};
 ghost use Rattle.txn_model.specs.Drive.{MarksAll, StopsWithin, Drives};
@@ -104,14 +104,13 @@ impl Engine {
         decision: Decision,
     ) -> Result<Status, CoordError>
         requires own { txn.most ≡ 0 }
-        requires whole { IsWhole self.old }
+        requires whole { IsTrue self.old.coord.whole }
         requires backed { IsBacked (D.image disk.old) self.old }
         ensures refused { D.tells → IsTied self.old → IfErr result (λ e. (now : ℕ) → MayTellOn D.Disk disk.old disk.new self.old (end_request decision txn) now (reply.No (coord_refusal e)) self.new) }
         ensures granted { D.tells → IsTied self.old → OnOk result (IsGranted self.old.limits (table_of self.old) (end_request decision txn)) }
         ensures settled { D.tells → IsTied self.old → OnOk result (table_of self.new ≡ with_batch (decision_batch (table_of self.old) txn decision) (table_of self.old)) }
         ensures rose { result ≡ Err CoordError.Fault → RoseIn D.Disk disk.old disk.new 0 }
         ensures decided { OnOk result (decision_of (coord_skeletons self.new.coord.front) txn ≡ Some decision) }
-        ensures whole { OnOk result (IsWhole self.new) }
         ensures ready { IsReady txn self.old → OnOk result (IsReady txn self.new) }
         ensures limits { self.new.limits ≡ self.old.limits }
         ensures goes { EngineGoesOn D.Disk (result ≡ Err CoordError.Fault) self.old self.new disk.old disk.new }
@@ -162,7 +161,7 @@ impl Engine {
         requires unclosed { closing_of (coord_skeletons self.old.coord.front) txn ≡ None }
         requires marked { AreMarked txn self.old (length self.old.topics) }
         requires reserved { self.old.coord.reserved ≡ 1 }
-        requires whole { IsWhole self.old }
+        requires whole { IsTrue self.old.coord.whole }
         requires backed { IsBacked (D.image disk.old) self.old }
         ensures ok { (d : Decision) → decision_of (coord_skeletons self.old.coord.front) txn ≡ Some d → D.tells → IsTied self.old → OnOk result (table_of self.new ≡ with_batch (closing_batch txn d) (table_of self.old)) }
         ensures err { (d : Decision) → decision_of (coord_skeletons self.old.coord.front) txn ≡ Some d → D.tells → IsTied self.old → OnErr result (table_of self.new ≡ with_failed_batch (closing_batch txn d) 0 (table_of self.old)) }
@@ -216,12 +215,13 @@ impl Engine {
         requires below { at < length self.old.topics }
         requires decided { decision_of (coord_skeletons self.old.coord.front) txn ≡ Some decision }
         requires reserved { (t : TopicView) → (slice_index_or self.old.topics at t).reserved ≡ 1 }
-        requires whole { IsWhole self.old }
+        requires log { IsTrue self.old.coord.whole }
+        requires whole { IsWholeAt self.old at }
         requires backed { IsBacked (D.image disk.old) self.old }
         ensures ok { D.tells → IsTied self.old → OnOk result (table_of self.new ≡ marked txn decision (1 + at) (table_of self.old)) }
         ensures err { D.tells → IsTied self.old → OnErr result ((is_none (marker_of (part_skeletons (table_of self.old).world (1 + at)) txn) ≡ true) × (table_of self.new ≡ with_failed_batch (marker_batch (table_of self.old) txn decision (1 + at)) (1 + at) (table_of self.old))) }
         ensures rose { OnErr result (RoseIn D.Disk disk.old disk.new (1 + at)) }
-        ensures marked { OnOk result ((t : TopicView) → is_some (marker_of (topic_skeletons (slice_index_or self.new.topics at t).front) txn) ≡ true) }
+        ensures marked { OnOk result (IsMarked txn self.new at) }
         ensures elsewhere { IsElsewhere at self.old self.new }
         ensures goes { EngineGoesOn D.Disk (IsErr result) self.old self.new disk.old disk.new }
     {

@@ -19,7 +19,7 @@ ghost use Rattle.txn_engine.specs.Publishing.{foreign, why_not_in, why_refusal, 
 ghost use Rattle.txn_model.specs.Skeletons.{coord_skeletons, topic_skeletons};
 ghost use Rattle.txn_engine.specs.Table.{world_of};
 ghost use Rattle.txn_engine.specs.Told.{IsTellable, EngineGoesOn, MayTellOn};
-ghost use Rattle.txn_engine.specs.View.{IsWhole, IsTied, IsBacked};
+ghost use Rattle.txn_engine.specs.View.{IsTied, IsBacked, UsesLog, IsWholeTopic};
 ghost use Rattle.txn_model.specs.EarlyRows.{are_too_big};
 ghost use Rattle.txn_model.specs.Replies.{is_fault};
 
@@ -39,7 +39,8 @@ impl Engine {
         txn: Option<TxnId>,
         bodies: &Texts,
     ) -> Reply
-        requires whole { IsWhole self.old }
+        requires log { UsesLog self.old txn }
+        requires whole { IsWholeTopic self.old topic.now }
         requires some { 1 ≤ length bodies.now }
         requires backed { IsBacked (D.image disk.old) self.old }
         ensures told { D.tells → IsTied self.old → (now : ℕ) → MayTellOn D.Disk disk.old disk.new self.old (request.Publish topic.now txn bodies.now) now result self.new }

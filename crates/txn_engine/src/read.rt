@@ -9,7 +9,7 @@ ghost use Rattle.txn_engine.specs.Damage.{IsDamageIn};
 ghost use Rattle.txn_engine.specs.Faults.{fault_name, RoseByName};
 ghost use Rattle.txn_engine.specs.Table.{world_of};
 ghost use Rattle.txn_engine.specs.Told.{IsTellable, EngineGoesOn, MayTellOn};
-ghost use Rattle.txn_engine.specs.View.{IsWhole, IsTied, IsBacked};
+ghost use Rattle.txn_engine.specs.View.{IsTied, IsBacked, IsWholeTopic};
 ghost use Rattle.txn_model.specs.Replies.{is_fault};
 
 use crate::engine::Engine;
@@ -28,7 +28,7 @@ impl Engine {
         max: u64,
         steps: &mut Steps<L>,
     ) -> Reply
-        requires whole { IsWhole self.now }
+        requires whole { IsWholeTopic self.now topic.now }
         requires some { 1 ≤ max }
         requires backed { IsBacked (D.image disk.old) self.now }
         ensures told { D.tells → IsTied self.now → (now : ℕ) → MayTellOn D.Disk disk.old disk.new self.now (request.Read topic.now first max) now result self.now }

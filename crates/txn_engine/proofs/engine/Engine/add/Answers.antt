@@ -1,9 +1,9 @@
-use Rattle.std.proofs.Common.{rules, ◌≡◌, ◌∙◌, sym, ap, subst, ℕ, ◌≤◌, length, List, Option, Fits, w32, arith, inl, refl}
+use Rattle.std.proofs.Common.{rules, ◌≡◌, ◌∙◌, sym, ap, subst, ℕ, ◌≤◌, length, List, Option, Fits, w32, IsTrue, arith, inl, refl}
 use Rattle.std.proofs.lemmas.Bool.Decides.{nat_tests}
 use Rattle.txn_engine.specs.Damage.{is_damage}
 use Rattle.txn_engine.specs.Kept.{IsEngine}
 use Rattle.txn_engine.specs.Told.{IsTellable, RoseFor}
-use Rattle.txn_engine.specs.View.{IsWhole, IsTied, IsBacked, EngineView}
+use Rattle.txn_engine.specs.View.{IsTied, IsBacked, EngineView}
 use Rattle.txn_model.specs.Full.{full_log}
 use Rattle.txn_model.specs.Names.{part_of}
 use Rattle.txn_model.specs.Coord.{status_of}
@@ -34,12 +34,12 @@ known_in v names part found e h = ap (λ (ns : List (List ℕ)). part_of ns part
 
 pub returns-in_default-clause-told : goal.returns-in_default-clause-told
 returns-in_default-clause-told g c = λ tells tied now.
-    unknown_add_told c.args.self.now (subst IsEngine c.self.view_is c.self.invariant) c.requires.whole tied _ _ (g.D.Disk.part_faults c.args.disk.now) (g.D.Disk.part_faults c.args.disk.now) c.args.txn c.args.part.now now
+    unknown_add_told c.args.self.now _ _ (g.D.Disk.part_faults c.args.disk.now) (g.D.Disk.part_faults c.args.disk.now) c.args.txn c.args.part.now now
     (known_in c.args.self.now c.deref.result.now c.args.part.now c.part_of.result (c.deref.ensures.value ∙ ap (λ (v : EngineView). v.names) c.self.view_is) c.part_of.ensures.value ∙ c.in_default.is) c.unknown_part.result c.unknown_part.ensures
 
 pub returns-then-txn-ne0-clause-told : goal.returns-then-txn-ne0-clause-told
 returns-then-txn-ne0-clause-told g c = λ tells tied now.
-    foreign_add_told c.args.self.now (subst IsEngine c.self.view_is c.self.invariant) c.requires.whole tied _ _ (g.D.Disk.part_faults c.args.disk.now) (g.D.Disk.part_faults c.args.disk.now) c.args.txn c.args.part.now now c.in-Some.number
+    foreign_add_told c.args.self.now _ _ (g.D.Disk.part_faults c.args.disk.now) (g.D.Disk.part_faults c.args.disk.now) c.args.txn c.args.part.now now c.in-Some.number
     (known_in c.args.self.now c.deref.result.now c.args.part.now c.part_of.result (c.deref.ensures.value ∙ ap (λ (v : EngineView). v.names) c.self.view_is) c.part_of.ensures.value ∙ c.in-Some.is) (grind (arith, nat_tests, c.if-txn-ne0.true))
 
 pub overflow_cast-number : goal.overflow_cast-number
@@ -52,7 +52,7 @@ add-added-requires-clause-most g c =
 pub invariant_of-self : goal.invariant_of-self
 invariant_of-self g c =
     engine_with _ c.self.invariant c.add-added.new.self
-    (added_kept _ c.self.invariant (subst IsWhole (sym c.self.view_is) c.requires.whole) c.args.txn c.in-Some.number c.in-Some.ensures.within.0
+    (added_kept _ c.self.invariant (subst (λ (v : EngineView). IsTrue v.coord.whole) (sym c.self.view_is) c.requires.whole) c.args.txn c.in-Some.number c.in-Some.ensures.within.0
     (subst (λ (ns : List (List ℕ)). c.in-Some.number ≤ length ns) c.deref.ensures.value c.in-Some.ensures.within.1) c.add-added.result c.add-added.new.self c.add-added.ensures.refused c.add-added.ensures.ok c.add-added.ensures.fault c.add-added.ensures.same)
     c.self.inside.latest c.self.invariant.latest
 
@@ -61,11 +61,11 @@ returns-clause-told g c = λ tells tied now.
     let within = subst (λ (ns : List (List ℕ)). c.in-Some.number ≤ length ns) c.deref.ensures.value c.in-Some.ensures.within.1 in
     told_at _ _ (g.D.Disk.part_faults c.args.disk.now) (g.D.Disk.part_faults c.add-added.new.disk) _ _ _ _ _ _ c.self.view_is
     (tell_at _ _ (g.D.Disk.part_faults c.args.disk.now) (g.D.Disk.part_faults c.add-added.new.disk) _ _ _ _ _ _ (sym c.added_reply.ensures)
-    (add_answer _ c.self.invariant (subst IsWhole (sym c.self.view_is) c.requires.whole) (subst IsTied (sym c.self.view_is) tied) _ _ (g.D.Disk.part_faults c.args.disk.now) (g.D.Disk.part_faults c.add-added.new.disk)
-    c.args.txn c.args.part.now now c.in-Some.number (ap (λ (ns : List (List ℕ)). part_of ns c.args.part.now) (sym c.deref.ensures.value) ∙ sym c.part_of.ensures.value ∙ c.in-Some.is) (grind (arith, nat_tests, c.if-txn-ne0.false))
-    c.in-Some.ensures.within.0 within c.add-added.result c.add-added.new.self
+    (add_answer _ _ _ (g.D.Disk.part_faults c.args.disk.now) (g.D.Disk.part_faults c.add-added.new.disk) c.args.txn c.args.part.now now
+    c.self.invariant (subst (λ (v : EngineView). IsTrue v.coord.whole) (sym c.self.view_is) c.requires.whole) (subst IsTied (sym c.self.view_is) tied) c.in-Some.number (ap (λ (ns : List (List ℕ)). part_of ns c.args.part.now) (sym c.deref.ensures.value) ∙ sym c.part_of.ensures.value ∙ c.in-Some.is) (grind (arith, nat_tests, c.if-txn-ne0.false))
+    c.add-added.result c.add-added.new.self
     (add_fits c.args.txn c.in-Some.number (length c.self.inside.names.items) (search rules) (search rules) c.in-Some.ensures.within.0 within (few_names c.self.inside.names.items c.self.invariant.names))
-    c.add-added.ensures.refused c.add-added.ensures.repeated c.add-added.ensures.ok c.add-added.ensures.fault c.add-added.ensures.same c.add-added.ensures.tied c.add-added.ensures.cause))
+    c.add-added.ensures.refused c.add-added.ensures.repeated c.add-added.ensures.ok c.add-added.ensures.fault c.add-added.ensures.same c.add-added.ensures.cause))
 
 pub returns-clause-tellable : goal.returns-clause-tellable
 returns-clause-tellable g c = subst IsTellable (sym c.added_reply.ensures) (added_tellable c.add-added.result)
@@ -75,7 +75,7 @@ returns-clause-goes g c =
     let within = subst (λ (ns : List (List ℕ)). c.in-Some.number ≤ length ns) c.deref.ensures.value c.in-Some.ensures.within.1 in
     goes_at g.D.Disk _ _ _ _ c.args.disk.now c.add-added.new.disk c.self.view_is
     (goes_for g.D.Disk _ _ _ _ c.args.disk.now c.add-added.new.disk (sym c.added_reply.ensures)
-    (added_goes g.D.Disk _ c.self.invariant (subst IsWhole (sym c.self.view_is) c.requires.whole) c.args.disk.now c.add-added.new.disk
+    (added_goes g.D.Disk _ c.self.invariant (subst (λ (v : EngineView). IsTrue v.coord.whole) (sym c.self.view_is) c.requires.whole) c.args.disk.now c.add-added.new.disk
     (subst (IsBacked (g.D.Disk.image c.args.disk.now)) (sym c.self.view_is) c.requires.backed) c.args.txn c.args.part.now c.in-Some.number
     (ap (λ (ns : List (List ℕ)). part_of ns c.args.part.now) (sym c.deref.ensures.value) ∙ sym c.part_of.ensures.value ∙ c.in-Some.is) (grind (arith, nat_tests, c.if-txn-ne0.false))
     (no_fault_add (status_of (coord_skeletons c.self.inside.coordinator.front) c.args.txn) (has_part c.self.inside.coordinator c.args.txn c.in-Some.number) (full_log c.self.inside.coordinator.limits (coord_total c.self.inside.coordinator) 1))

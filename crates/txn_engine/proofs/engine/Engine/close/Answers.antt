@@ -14,11 +14,11 @@ invariant_of-self g c =
 
 pub returns-clause-ok : goal.returns-clause-ok
 returns-clause-ok g c = λ d decided tells tied.
-    close_ok _ c.self.invariant _ c.self.view_is c.requires.whole c.args.txn d (search rules) decided c.requires.unclosed c.close.new.self c.close.result c.close.ensures.ok c.close.ensures.fault tied c.close.ensures.tied
+    close_ok _ c.self.invariant _ c.self.view_is c.requires.whole c.args.txn d (search rules) decided c.requires.unclosed c.close.new.self c.close.result c.close.ensures.ok c.close.ensures.fault
 
 pub returns-clause-err : goal.returns-clause-err
 returns-clause-err g c = λ d decided tells tied.
-    close_err _ c.self.invariant _ c.self.view_is c.requires.whole c.args.txn d (search rules) decided c.requires.unclosed c.close.new.self c.close.result c.close.ensures.ok c.close.ensures.fault tied c.close.ensures.tied
+    close_err _ c.self.invariant _ c.self.view_is c.requires.whole c.args.txn d (search rules) decided c.requires.unclosed c.close.new.self c.close.result c.close.ensures.ok c.close.ensures.fault
 
 pub returns-clause-rose : goal.returns-clause-rose
 returns-clause-rose g c =

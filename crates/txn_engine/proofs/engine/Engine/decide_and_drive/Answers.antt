@@ -1,4 +1,7 @@
-use Rattle.std.proofs.Common.{sym, subst, ap, ◌∙◌, Err}
+use Rattle.std.proofs.Common.{◌≡◌, ⊎_elim, Result, Ok, sym, subst, ap, ◌∙◌, Err}
+use Rattle.txn_base.specs.declared.txn.Status.{Status}
+use Rattle.txn_coordinator.specs.declared.error.CoordError.{CoordError}
+use Rattle.txn_coordinator.specs.declared.error.CoordError.TheVariants as coord_error
 use Rattle.txn_base.specs.declared.reply.Refusal.{Refusal}
 use Rattle.txn_base.specs.declared.reply.Reply.TheVariants as reply
 use Rattle.txn_engine.specs.Damage.{is_damage}
@@ -45,3 +48,12 @@ pub returns-in-Err-clause-named : goal.returns-in-Err-clause-named
 returns-in-Err-clause-named g c =
     named_for c.args.self.now.names (RoseFor (g.D.Disk.faults c.args.disk.now) (g.D.Disk.faults c.decide.new.disk) (g.D.Disk.part_faults c.args.disk.now) (g.D.Disk.part_faults c.decide.new.disk)) _ _ (ap (λ (row : Refusal). reply.No row) c.coord_refusal.ensures)
     (refusal_named c.args.self.now.names (RoseFor (g.D.Disk.faults c.args.disk.now) (g.D.Disk.faults c.decide.new.disk) (g.D.Disk.part_faults c.args.disk.now) (g.D.Disk.part_faults c.decide.new.disk)) c.in-Err.error (λ e. c.in-Err.ensures.rose (ap Err e)))
+
+pub decide-requires-clause-whole : goal.decide-requires-clause-whole
+decide-requires-clause-whole g c = c.requires.whole.coord
+
+pub drive-requires-clause-whole : goal.drive-requires-clause-whole
+drive-requires-clause-whole g c = ⊎_elim (λ stays. stays c.requires.whole) (λ e. absurd (never e)) c.in-Ok.ensures.goes.whole
+  where
+    never : {s : Status} → ◌≡◌ {A = Result Status CoordError} (Ok s) (Err coord_error.Fault) → ⊥
+    never e = cc

@@ -1,8 +1,9 @@
 use Rattle.std.proofs.Common.{rules, not, ap, sym, subst, ◌∙◌, refl, ◌+◌}
 use Rattle.txn_engine.specs.Kept.{IsEngine}
-use Rattle.txn_engine.proofs.MarkLoop.{parts_at, below_at, past_at, loop_starts, loop_reserved, loop_skips, loop_marks, loop_stops, loop_fails, loop_ends, loop_at}
+use Rattle.txn_engine.proofs.MarkLoop.{parts_at, below_at, past_at, loop_starts, loop_reserved, loop_skips, loop_marks, loop_stops, loop_fails, loop_given, loop_ends, loop_at}
 use Rattle.txn_engine.proofs.Driving.{rose_later}
 use Rattle.txn_engine.proofs.Marked.{from_ok_err}
+use Rattle.txn_engine.proofs.Opened.{whole_index}
 use Rattle.txn_engine.proofs.engine.Engine.mark_all.Goals as goal
 use Rattle.txn_engine.proofs.engine.Engine.mark_all.Goals.{else-has_part-via-then-has_part+else-is_err, else-has_part-via-else-has_part}
 
@@ -55,3 +56,15 @@ pub returns-then-is_err-clause-rose : goal.returns-then-is_err-clause-rose
 returns-then-is_err-clause-rose g c =
     let went = c.loop-at.invariant.goes.cause in
     rose_later (1 + c.loop-at.at) _ _ _ (g.D.Disk.part_faults c.args.disk.now) (g.D.Disk.part_faults c.loop-at.disk) (g.D.Disk.part_faults c.mark.new.disk) went.later (went.parts_later (1 + c.loop-at.at)) (from_ok_err c.mark.result _ (sym c.is_err.ensures.value ∙ c.if-is_err.true) c.mark.ensures.rose)
+
+pub mark-requires-clause-log : goal.mark-requires-clause-log
+mark-requires-clause-log g c = c.loop-at.invariant.whole.coord
+
+pub mark-requires-clause-whole : goal.mark-requires-clause-whole
+mark-requires-clause-whole g c =
+    whole_index c.loop-at.self c.loop-at.invariant.whole c.loop-at.at (below_at _ _ c.self-in-loop-at.view_is c.len.result c.loop-at.at (c.len.ensures ∙ search rules) c.loop-at-test.true)
+
+pub returns-clause-marked : goal.returns-clause-marked
+returns-clause-marked g c =
+    loop_given g.D.Disk g.D.Disk.tells c.args.txn c.args.decision c.args.self.now c.loop-at.self c.args.disk.now c.loop-at.disk c.loop-at.at c.loop-at.invariant
+    (past_at _ _ c.self-in-loop-at.view_is c.len.result c.loop-at.at (c.len.ensures ∙ search rules) c.loop-at-test.false)

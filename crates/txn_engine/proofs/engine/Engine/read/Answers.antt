@@ -4,7 +4,7 @@ use Rattle.txn_base.proofs.Laws.{begins_with}
 use Rattle.txn_ledger.specs.Ledger.{StandsIn, ExactlyIn, BeginsIn}
 use Rattle.txn_ledger.specs.LedgerLaws.{begins}
 use Rattle.txn_engine.specs.Kept.{IsEngine}
-use Rattle.txn_engine.specs.View.{IsWhole, IsTied, IsBacked, EngineView}
+use Rattle.txn_engine.specs.View.{IsTied, IsBacked, IsWholeTopic, EngineView}
 use Rattle.txn_model.specs.Names.{part_of}
 use Rattle.txn_engine.proofs.AtView.{told_both, goes_both}
 use Rattle.txn_engine.proofs.Damage.{none_told, unknown_sound, unknown_quiet, damage_told}
@@ -20,7 +20,7 @@ use Rattle.txn_engine.proofs.engine.Engine.read.Goals as goal
 
 pub returns-in_default-clause-told : goal.returns-in_default-clause-told
 returns-in_default-clause-told g c = λ tells tied now.
-    unknown_read_told c.args.self.now (subst IsEngine c.self.view_is c.self.invariant) c.requires.whole tied _ _ (g.D.Disk.part_faults c.args.disk.now) (g.D.Disk.part_faults c.args.disk.now) c.args.topic.now c.args.first c.args.max now
+    unknown_read_told c.args.self.now _ _ (g.D.Disk.part_faults c.args.disk.now) (g.D.Disk.part_faults c.args.disk.now) c.args.topic.now c.args.first c.args.max now
     (ap (λ (v : EngineView). part_of v.names c.args.topic.now) (sym c.self.view_is) ∙ ap (λ (ns : List (List ℕ)). part_of ns c.args.topic.now) (sym c.deref.ensures.value) ∙ sym c.part_of.ensures.value ∙ c.in_default.is) c.unknown_part.result c.unknown_part.ensures
 
 pub returns-in-Ok-read-clause-told : goal.returns-in-Ok-read-clause-told
@@ -30,8 +30,8 @@ returns-in-Ok-read-clause-told g c = λ tells tied now.
     let tie = subst IsTied (sym c.self.view_is) tied in
     let at = at_known _ _ _ _ found _ c.index-part.ensures in
     told_both _ _ (g.D.Disk.part_faults c.args.disk.now) (g.D.Disk.part_faults c.read.new.disk) _ _ _ _ _ c.self.view_is
-    (read_answer _ c.self.invariant (subst IsWhole (sym c.self.view_is) c.requires.whole) tie _ _ (g.D.Disk.part_faults c.args.disk.now) (g.D.Disk.part_faults c.read.new.disk) c.args.topic.now c.args.first c.args.max now
-    c.in-Some.number known c.index-part.result.now at c.limit-limit.result c.in-Ok-read.messages c.limit-limit.ensures (c.in-Ok-read.ensures.slice tells (tied_at _ _ _ _ found _ c.index-part.ensures tie)))
+    (read_answer _ _ _ (g.D.Disk.part_faults c.args.disk.now) (g.D.Disk.part_faults c.read.new.disk) c.args.topic.now c.args.first c.args.max now
+    c.self.invariant c.in-Some.number known c.index-part.result.now at (subst (λ (v : EngineView). IsWholeTopic v c.args.topic.now) (sym c.self.view_is) c.requires.whole c.in-Some.number known) tie c.limit-limit.result c.in-Ok-read.messages c.limit-limit.ensures (c.in-Ok-read.ensures.slice tells (tied_at _ _ _ _ found _ c.index-part.ensures tie)))
 
 pub returns-in-Ok-read-clause-goes : goal.returns-in-Ok-read-clause-goes
 returns-in-Ok-read-clause-goes g c =
@@ -57,11 +57,10 @@ pub returns-in-Err-Fault-clause-told : goal.returns-in-Err-Fault-clause-told
 returns-in-Err-Fault-clause-told g c = λ tells tied now.
     let known = ap (λ (ns : List (List ℕ)). part_of ns c.args.topic.now) (sym c.deref.ensures.value) ∙ sym c.part_of.ensures.value ∙ c.in-Some.is in
     let found = knows _ c.self.invariant c.args.topic.now c.in-Some.number known in
-    let tie = subst IsTied (sym c.self.view_is) tied in
     let at = at_known _ _ _ _ found _ c.index-part.ensures in
     told_both _ _ (g.D.Disk.part_faults c.args.disk.now) (g.D.Disk.part_faults c.read.new.disk) _ _ _ _ _ c.self.view_is
-    (read_fault_answer _ c.self.invariant (subst IsWhole (sym c.self.view_is) c.requires.whole) tie _ _ (g.D.Disk.part_faults c.args.disk.now) (g.D.Disk.part_faults c.read.new.disk) c.args.topic.now c.args.first c.args.max now
-    c.in-Some.number known c.index-part.result.now at c.fill-in-Err-Fault.result (c.fill-in-Err-Fault.ensures ∙ c.as_str-in-Err-Fault.ensures.value) (c.in-Err-Fault.ensures.cause.failed (ap Err c.in-Err-Fault.field-0-is)))
+    (read_fault_answer _ _ _ (g.D.Disk.part_faults c.args.disk.now) (g.D.Disk.part_faults c.read.new.disk) c.args.topic.now c.args.first c.args.max now
+    c.self.invariant c.in-Some.number known c.index-part.result.now at (subst (λ (v : EngineView). IsWholeTopic v c.args.topic.now) (sym c.self.view_is) c.requires.whole c.in-Some.number known) c.fill-in-Err-Fault.result (c.fill-in-Err-Fault.ensures ∙ c.as_str-in-Err-Fault.ensures.value) (c.in-Err-Fault.ensures.cause.failed (ap Err c.in-Err-Fault.field-0-is)))
 
 pub returns-in-Err-Fault-clause-tellable : goal.returns-in-Err-Fault-clause-tellable
 returns-in-Err-Fault-clause-tellable g c short =

@@ -10,6 +10,7 @@ use Rattle.txn_engine.proofs.Faults.{none_named}
 use Rattle.txn_engine.specs.Causes.{TellsEarly}
 use Rattle.txn_engine.specs.Table.{world_of}
 use Rattle.txn_engine.proofs.Early.{none_other}
+use Rattle.txn_engine.proofs.Opened.{whole_log, whole_topic}
 use Rattle.txn_engine.proofs.engine.Engine.reply_to.Goals as goal
 
 pub returns-in-New-clause-answers : goal.returns-in-New-clause-answers
@@ -104,3 +105,18 @@ returns-in-Status-clause-goes g c =
 pub returns-in_default-clause-goes : goal.returns-in_default-clause-goes
 returns-in_default-clause-goes g c =
     absurd (none_other c.args.request.now c.requires.asked c.in_default.not-New c.in_default.not-Add c.in_default.not-Publish c.in_default.not-Read c.in_default.not-Commit c.in_default.not-Abort c.in_default.not-Status)
+
+pub begin-requires-clause-whole : goal.begin-requires-clause-whole
+begin-requires-clause-whole g c = c.requires.whole.coord
+
+pub add-requires-clause-whole : goal.add-requires-clause-whole
+add-requires-clause-whole g c = c.requires.whole.coord
+
+pub publish-requires-clause-log : goal.publish-requires-clause-log
+publish-requires-clause-log g c = whole_log c.args.self.now c.requires.whole _
+
+pub publish-requires-clause-whole : goal.publish-requires-clause-whole
+publish-requires-clause-whole g c = whole_topic c.args.self.now c.requires.whole c.kept.ensures _
+
+pub read-requires-clause-whole : goal.read-requires-clause-whole
+read-requires-clause-whole g c = whole_topic c.args.self.now c.requires.whole c.kept.ensures _

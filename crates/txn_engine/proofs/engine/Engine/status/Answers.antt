@@ -13,16 +13,16 @@ use Rattle.txn_engine.proofs.engine.Engine.status.Goals as goal
 
 pub returns-then-txn-ne0-clause-told : goal.returns-then-txn-ne0-clause-told
 returns-then-txn-ne0-clause-told c = λ before now parts_before parts_now tied moment.
-    foreign_status_told c.args.self.now (subst IsEngine c.self.view_is c.self.invariant) c.requires.whole tied before now parts_before parts_now moment c.args.txn (grind (arith, nat_tests, c.if-txn-ne0.true))
+    foreign_status_told c.args.self.now before now parts_before parts_now moment c.args.txn (grind (arith, nat_tests, c.if-txn-ne0.true))
 
 pub returns-in-Some-clause-told : goal.returns-in-Some-clause-told
 returns-in-Some-clause-told c = λ before now parts_before parts_now tied moment.
-    status_told c.args.self.now (subst IsEngine c.self.view_is c.self.invariant) c.requires.whole tied before now parts_before parts_now moment c.args.txn c.in-Some.status (grind (arith, nat_tests, c.if-txn-ne0.false))
+    status_told c.args.self.now before now parts_before parts_now moment c.args.txn (subst IsEngine c.self.view_is c.self.invariant) c.requires.whole tied (grind (arith, nat_tests, c.if-txn-ne0.false)) c.in-Some.status
     (ap (λ v. status_of (coord_skeletons v.coord.front) c.args.txn) (sym c.self.view_is) ∙ sym c.status-found.ensures ∙ c.in-Some.is)
 
 pub returns-in-None-clause-told : goal.returns-in-None-clause-told
 returns-in-None-clause-told c = λ before now parts_before parts_now tied moment.
-    not_found_told c.args.self.now (subst IsEngine c.self.view_is c.self.invariant) c.requires.whole tied before now parts_before parts_now moment c.args.txn (grind (arith, nat_tests, c.if-txn-ne0.false))
+    not_found_told c.args.self.now before now parts_before parts_now moment c.args.txn (subst IsEngine c.self.view_is c.self.invariant) c.requires.whole tied (grind (arith, nat_tests, c.if-txn-ne0.false))
     (ap (λ v. status_of (coord_skeletons v.coord.front) c.args.txn) (sym c.self.view_is) ∙ sym c.status-found.ensures ∙ c.in-None.is)
 
 pub returns-then-txn-ne0-clause-early : goal.returns-then-txn-ne0-clause-early
