@@ -1,5 +1,5 @@
 -- What a reader's answer is, by the words that it looked at.
-use Rattle.std.proofs.Common.{◌≡◌, ◌≢◌, ℕ, ◌+◌, ◌<◌, arith, ◌==◌, Bool, true, false, ◌&&◌, if◌then◌else◌, List, [], ◌∷◌, ◌++◌, Option, Some, None, refl, sym, ap, ◌∙◌, subst, append_assoc}
+use Rattle.std.proofs.Common.{◌≡◌, ◌≢◌, ℕ, ◌+◌, ◌<◌, arith, ◌==◌, Bool, true, false, not, ◌&&◌, if◌then◌else◌, List, [], ◌∷◌, ◌++◌, Option, Some, None, refl, sym, ap, ◌∙◌, subst, append_assoc}
 use Rattle.std.specs.Prelude.{map, nat_le}
 use Rattle.std.proofs.lemmas.Bool.{eq-eqb, ne_eqb, lt-ltb, le-ltb}
 use Rattle.std.proofs.lemmas.List.{append-nil}
@@ -204,6 +204,12 @@ module _ (made : Type 0) (lists : List (List CoreEntry)) (x : ℕ) where
               ∙ (ap (λ t. status_by true t (bit_seen lists ls x Decided 1) (bit_seen lists ls x Done 0)) (two_decided a b 0 v1 (omega arith) l ∙ c) ∙ ap (λ t. status_by true false t (bit_seen lists ls x Done 0)) (two_decided a b 1 v1 (omega arith) l ∙ d)));
         },
       )
+
+  -- what isn't a commit is an abort
+  pub other_way : (sent lost shut : Bool) → ((sent ≡ false) × (lost ≡ false) → ⊥) → status_by true sent (not sent) shut ≡ status_by true sent lost shut
+  other_way true lost shut m = refl
+  other_way false true shut m = refl
+  other_way false false shut m = absurd (m (refl, refl))
 
   decided_words : (sent lost shut : Bool) → ((sent ≡ false) × (lost ≡ false) → ⊥) → words_of (status_by true sent lost shut) ≡ Registered ∷ Decided ∷ Done ∷ []
   decided_words true lost true m = refl

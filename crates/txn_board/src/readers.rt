@@ -43,6 +43,7 @@ pub(crate) fn decision_told(commit: bool, abort: bool) -> Option<Decision>
 
 impl<T: Promise, N: Naming> Board<T, N> {
     /// The status of a transaction; none where it isn't begun, and past the window.
+    #[inline(always)]
     pub fn status(&self, seat: &mut BoardSeat<N>, txn: u64) -> Option<Status>
         ensures read { StatusIsRead T.made N.lists txn result seat.old seat.new }
         ensures told { IsTold T.made N.lists txn seat.old seat.new (IsStatusIn txn result) }
@@ -70,7 +71,7 @@ impl<T: Promise, N: Naming> Board<T, N> {
             return Some(Status::Open);
         }
         let done = self.look_at(seat, txn, Word::Done, first);
-        status_told(commit, abort, is_bit_set(done, 0))
+        status_told(commit, !commit, is_bit_set(done, 0))
     }
 
     /// Anywhere, each word by itself.
