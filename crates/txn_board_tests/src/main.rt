@@ -73,8 +73,8 @@ fn report(rt: HostRuntime) -> Result<(), std::io::Error> {
     tell_fresh(rt, "first a message", fresh_seats(rt.alloc(), true))?;
     tell_fresh(rt, "first a marker", fresh_seats(rt.alloc(), false))?;
     match sure_board(rt.alloc()) {
-        Ok(told) => println!(rt; "a decision whose conditions are shown: {:?}", told)?,
-        Err(_) => println!(rt; "a decision whose conditions are shown: no memory")?,
+        Ok(told) => println!(rt; "a transaction whose conditions are shown: {:?}", told)?,
+        Err(_) => println!(rt; "a transaction whose conditions are shown: no memory")?,
     }
     Ok(())
 }

@@ -1,17 +1,19 @@
 //! A board that rests on no promise: each condition of its calls is shown.
-ghost use Rattle.std.specs.Prelude.{◌≡◌, [], ◌∷◌};
+ghost use Rattle.std.specs.Prelude.{◌≡◌, [], ◌∷◌, true, IfSome};
 ghost use Rattle.txn_board.specs.Rows.{opening_view, dealt_view};
+ghost use Rattle.txn_board_tests.specs.Sure.{decided_log, closed_log, sent, marked, Rests};
 
 use std::alloc::{AllocError, Global};
 use std::marker::Brand;
-use txn_base::{Decision, Status};
-use txn_board::{Board, BoardSeat, Naming, Opened, OwnStart, Surely};
+use txn_base::Decision;
+use txn_board::{Board, BoardSeat, Naming, Opened, OwnStart, Seats, Surely};
 use txn_core::Skeletons;
 
 /// The first transaction of empty lists is begun, gets its part and is decided.
 fn decide<N: Naming>(board: &Board<Surely, N>, coord: &mut BoardSeat<N>)
     requires lists { N.lists ≡ [] ∷ [] ∷ [] }
     requires seat { coord.old ≡ dealt_view (opening_view N.lists) }
+    ensures { Rests 0 decided_log coord.new }
 {
     board.start_own(coord, OwnStart::New { txn: 0 });
     board.settle_reg(coord, 0, 0);
@@ -27,20 +29,112 @@ fn decide<N: Naming>(board: &Board<Surely, N>, coord: &mut BoardSeat<N>)
     board.settle_dec(coord, 0, Decision::Commit);
 }
 
-fn status_at<N: Naming>(opened: Opened<Surely>) -> Option<Status>
+/// The part sends a message of it, which settles.
+fn send<N: Naming>(board: &Board<Surely, N>, part: &mut BoardSeat<N>) -> bool
+    requires lists { N.lists ≡ [] ∷ [] ∷ [] }
+    requires seat { Rests 1 [] part.old }
+    ensures { result ≡ true → Rests 1 sent part.new }
+{
+    if !board.start_in(part, 0, 1) {
+        return false;
+    }
+    board.settle_own(part);
+    true
+}
+
+/// One more is lost.
+fn lose<N: Naming>(board: &Board<Surely, N>, part: &mut BoardSeat<N>) -> bool
+    requires lists { N.lists ≡ [] ∷ [] ∷ [] }
+    requires seat { Rests 1 sent part.old }
+    ensures { result ≡ true → Rests 1 sent part.new }
+{
+    if !board.start_in(part, 0, 1) {
+        return false;
+    }
+    board.drop_flight(part);
+    true
+}
+
+/// The part ends it by the decision that it reads.
+fn mark<N: Naming>(board: &Board<Surely, N>, part: &mut BoardSeat<N>) -> Option<Decision>
+    requires lists { N.lists ≡ [] ∷ [] ∷ [] }
+    requires seat { Rests 1 sent part.old }
+    ensures { IfSome result (λ d. Rests 1 (marked d) part.new) }
+{
+    let decision = board.start_marker(part, 0)?;
+    board.settle_done(part, 0);
+    Some(decision)
+}
+
+/// The coordinator closes it, where its part has the marker.
+fn close<N: Naming>(board: &Board<Surely, N>, coord: &mut BoardSeat<N>) -> bool
+    requires lists { N.lists ≡ [] ∷ [] ∷ [] }
+    requires seat { Rests 0 decided_log coord.old }
+    ensures { result ≡ true → Rests 0 closed_log coord.new }
+{
+    if board.start_close(coord, 0).is_err() {
+        return false;
+    }
+    board.settle_done(coord, 0);
+    true
+}
+
+/// The rows of both close the board.
+fn finish<N: Naming>(
+    board: Board<Surely, N>,
+    mut coord: BoardSeat<N>,
+    part: BoardSeat<N>,
+    decision: Decision,
+)
+    requires lists { N.lists ≡ [] ∷ [] ∷ [] }
+    requires coord { Rests 0 closed_log coord }
+    requires part { Rests 1 (marked decision) part }
+{
+    board.join(&mut coord, part);
+    board.close_with(coord);
+}
+
+/// The seats of the coordinator and of the part.
+fn deal_both<N: Naming>(
+    board: &Board<Surely, N>,
+    seats: &mut Seats<N>,
+) -> (BoardSeat<N>, BoardSeat<N>)
+    requires all { seats.old ≡ opening_view N.lists }
+    requires lists { N.lists ≡ [] ∷ [] ∷ [] }
+    ensures coord { result.0 ≡ dealt_view (opening_view N.lists) }
+    ensures part { Rests 1 [] result.1 }
+{
+    let coord = board.deal(seats);
+    let part = board.deal(seats);
+    (coord, part)
+}
+
+/// The transaction goes from its beginning to its end, and its board is closed.
+fn decision_at<N: Naming>(opened: Opened<Surely>) -> Option<Decision>
     requires table { opened.table.shared.table_id ≡ N.table }
     requires key { opened.table.shared.key ≡ N.lists }
     requires lists { N.lists ≡ [] ∷ [] ∷ [] }
 {
     let (board, mut seats) = opened.named::<N>();
-    let mut coord = board.deal(&mut seats);
+    let (mut coord, mut part) = deal_both(&board, &mut seats);
     decide(&board, &mut coord);
-    board.status(&mut coord, 0)
+    if !send(&board, &mut part) {
+        return None;
+    }
+    if !lose(&board, &mut part) {
+        return None;
+    }
+    let decision = mark(&board, &mut part)?;
+    if !close(&board, &mut coord) {
+        return None;
+    }
+    finish(board, coord, part, decision);
+    Some(decision)
 }
 
-/// The status of the transaction at the end.
-pub fn sure_board(alloc: Global) -> Result<Option<Status>, AllocError> {
+/// The decision by which the transaction ended.
+pub fn sure_board(alloc: Global) -> Result<Option<Decision>, AllocError> {
     let lists = Skeletons::new(alloc, 1)?;
     let opened = Opened::<Surely>::of_lists(alloc, &lists)?;
-    Ok(status_at::<Brand>(opened))
+    Ok(decision_at::<Brand>(opened))
 }

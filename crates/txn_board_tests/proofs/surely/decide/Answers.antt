@@ -5,7 +5,7 @@ use Rattle.txn_core.specs.declared.step.CoreRow.{CoreRow}
 use Rattle.txn_core.specs.Together.{is_alone}
 use Rattle.txn_core.specs.Steps.{start_row, settle_row}
 use Rattle.txn_core.specs.Kept.{resting_row}
-use Rattle.txn_board.specs.Rows.{parts_in, IsSeatOf}
+use Rattle.txn_board.specs.Rows.{parts_in}
 use Rattle.txn_board_tests.proofs.Shown.{first_seat, may, started, settling, settled, within}
 use Rattle.txn_board_tests.proofs.surely.decide.Goals as goal
 
@@ -61,3 +61,12 @@ settle_dec-requires g c =
     let d = started second (core.AddPart (txn 0) 1) c.settle_reg.new.seat c.start_own-2.new.seat c.start_own-2.ensures.value b c.start_own-2.ensures.view in
     let e = settled second (core.AddPart (txn 0) 1) c.start_own-2.new.seat c.settle_reg-2.new.seat d c.settle_reg-2.ensures in
     λ p. settling third (core.Committing (txn 0)) c.start_own-3.new.seat (started third (core.Committing (txn 0)) c.settle_reg-2.new.seat c.start_own-3.new.seat c.start_own-3.ensures.value e c.start_own-3.ensures.view)
+
+pub returns : goal.returns
+returns g c =
+    let a = started (resting_row []) (core.New (txn 0)) c.args.coord.now c.start_own.new.seat c.start_own.ensures.value (first_seat g.N.Naming.lists c.args.coord.now c.requires.lists c.requires.seat) c.start_own.ensures.view in
+    let b = settled (resting_row []) (core.New (txn 0)) c.start_own.new.seat c.settle_reg.new.seat a c.settle_reg.ensures in
+    let d = started second (core.AddPart (txn 0) 1) c.settle_reg.new.seat c.start_own-2.new.seat c.start_own-2.ensures.value b c.start_own-2.ensures.view in
+    let e = settled second (core.AddPart (txn 0) 1) c.start_own-2.new.seat c.settle_reg-2.new.seat d c.settle_reg-2.ensures in
+    let f = started third (core.Committing (txn 0)) c.settle_reg-2.new.seat c.start_own-3.new.seat c.start_own-3.ensures.value e c.start_own-3.ensures.view in
+    settled third (core.Committing (txn 0)) c.start_own-3.new.seat c.settle_dec.new.seat f c.settle_dec.ensures
