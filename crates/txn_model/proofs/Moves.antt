@@ -262,7 +262,7 @@ way limits rose t request.Stop told t' h = by_row refl refl h
 abbrev pub WholeFor : Request → TableState → Type 0
 WholeFor r t = (p : ℕ) → has (uses t.world r) p ≡ true → is_unrebuilt t p ≡ false
 
-uses_same : (w w' : World) (r : Request) → w'.names ≡ w.names → uses w' r ≡ uses w r
+pub uses_same : (w w' : World) (r : Request) → w'.names ≡ w.names → uses w' r ≡ uses w r
 uses_same w w' r e = ap (λ names. uses (over names) r) e
   where
     over : List (List ℕ) → World
