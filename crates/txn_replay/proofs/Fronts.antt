@@ -8,7 +8,7 @@ use Rattle.std.proofs.Math.Seq.{get_or-append_seam}
 use Rattle.txn_base.specs.Content.{LedgerContent, Standing, settled, looked_at, in_flight, with_flight}
 use Rattle.txn_base.specs.Frames.{Record, Batch, records}
 use Rattle.txn_replay.specs.declared.grammar.Grammar.{Ghosts}
-use Rattle.txn_replay.specs.Fronts.{record_at, entries_in, AreGrammatical, AreFirstOf, AreTakenFrom, AreEntriesOf, IsBadAfter, IsFirstBad, Takes}
+use Rattle.txn_replay.specs.Fronts.{record_at, entries_in, AreGrammatical, AreFirstOf, AreTakenFrom, AreEntriesOf, IsBadAfter, FirstBadRecord, Takes}
 use Rattle.txn_replay.specs.Settling.{MayHaveSettled}
 
 records-append : (a b : List Batch) → records (a ++ b) ≡ records a ++ records b
@@ -68,7 +68,7 @@ module _ {S E : Type 0} (g : Ghosts S E) where
 
   -- a bad record behind them is the first one
   pub first_bad_at : (rule : ℕ) (batches : List Batch) (front : List E) (bytes : Record) (place : ℕ) → length front ≡ place → place < length (records batches) → bytes ≡ record_at batches place
-      → g.lawful rule front → AreTakenFrom g batches front → IsBadAfter g rule front bytes → IsFirstBad g rule batches place
+      → g.lawful rule front → AreTakenFrom g batches front → IsBadAfter g rule front bytes → FirstBadRecord g rule batches place
   first_bad_at rule batches front bytes place at within is lawful was bad =
       let are : front ≡ take place (entries_in g batches) = was.entries ∙ ap (λ n. take n (entries_in g batches)) at in
       record {

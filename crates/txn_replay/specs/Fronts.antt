@@ -33,7 +33,7 @@ abbrev pub IsBadAfter : {S E : Type 0} → Ghosts S E → ℕ → List E → Rec
 IsBadAfter {E = E} grammar rule before bytes = ((e : E) → grammar.is_record bytes e → ⊥) ⊎ (grammar.allows rule before (grammar.entry_of bytes) ≡ false)
 
 -- The record at this place is the first that is outside the grammar or not allowed after those before it.
-pub record IsFirstBad {S E : Type 0} (grammar : Ghosts S E) (rule : ℕ) (batches : List Batch) (place : ℕ) : Type 0 where
+pub record FirstBadRecord {S E : Type 0} (grammar : Ghosts S E) (rule : ℕ) (batches : List Batch) (place : ℕ) : Type 0 where
   pub within : place < length (records batches)
   pub in_grammar : AreGrammatical grammar batches place
   pub before : grammar.lawful rule (take place (entries_in grammar batches))
@@ -53,4 +53,4 @@ pub record Takes {S E : Type 0} (grammar : Ghosts S E) (rule : ℕ) (tells : Typ
 pub record IsDamage {S E : Type 0} (grammar : Ghosts S E) (rule : ℕ) (tells : Type 0) (batches : List Batch) (before : List E) (from end place : ℕ) : Type 0 where
   pub from_on : from ≤ place
   pub before_end : place < end
-  pub first_bad : tells → AreTakenFrom grammar batches before → IsFirstBad grammar rule batches place
+  pub first_bad : tells → AreTakenFrom grammar batches before → FirstBadRecord grammar rule batches place

@@ -22,4 +22,7 @@ pub trait Grammar {
 
     /// A lawful list goes on with an entry of a record that is allowed after it.
     ghost goes_on: { (n : ℕ) (xs : List Self.Entry) (r : Record) (e : Self.Entry) → lawful n xs → is_record r e → allows n xs e ≡ true → lawful n (xs ++ e ∷ []) };
+
+    /// The last of a lawful list is allowed after those before it, which are lawful.
+    ghost ends_in: { (n : ℕ) (xs : List Self.Entry) (e : Self.Entry) → lawful n (xs ++ e ∷ []) → lawful n xs × (allows n xs e ≡ true) };
 }

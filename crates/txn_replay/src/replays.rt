@@ -3,7 +3,7 @@ ghost use Rattle.std.specs.Prelude.{◌≡◌, ◌≤◌, ◌<◌, ◌+◌, ◌^
 ghost use Rattle.txn_base.specs.Frames.{records};
 ghost use Rattle.txn_ledger.specs.Reading.{ReadsOn};
 ghost use Rattle.txn_replay.specs.Fronts.{Takes, IsDamage};
-ghost use Rattle.txn_replay.specs.Reading.{ReadsFor};
+ghost use Rattle.txn_replay.specs.Reading.{OnlyReads};
 
 use crate::grammar::Grammar;
 use std::alloc::AllocError;
@@ -13,7 +13,7 @@ use txn_ledger::{GetError, RecordLog};
 
 /// What is rebuilt from records.
 pub trait Replays: Grammar {
-    ghost use Rattle.std.specs.Prelude.{◌≡◌, ◌⊎◌, ℕ, List, false};
+    ghost use Rattle.std.specs.Prelude.{◌≡◌, ◌⊎◌, ℕ, List, false, length, take};
 
     /// The entries that it was rebuilt from.
     ghost front: { Self → List Self.Entry };
@@ -21,8 +21,10 @@ pub trait Replays: Grammar {
     /// The rule by which they may follow each other.
     ghost rule: { Self → ℕ };
 
-    /// Those of them that it keeps apart from what it takes, if it does.
+    /// Those of them that it keeps apart from what it takes, if it does: the first ones.
     ghost own: { Self → List Self.Entry };
+
+    ghost own_first: { (s : Self) → own s ≡ take (length (own s)) (front s) };
 
     /// How many they are.
     fn len(&self) -> u64
@@ -63,6 +65,7 @@ pub fn replay_to<R: RecordLog, S: Replays, D: Disk, L: ledger::Ledger>(
     requires reads { ReadsOn R.RecordLog D.Disk disk.old (R.content log.now) }
     ensures grown { OnOk result
         (length (S.front state.new) ≡ max (length (S.front state.old)) end) }
+    ensures most { length (S.front state.new) ≤ max (length (S.front state.old)) end }
     ensures taken { Takes S.Grammar (S.rule state.old) D.tells (R.content log.now).batches
         (S.front state.old) (S.front state.new) }
     ensures damaged { (place : ℕ) → result ≡ Err (MendError.Damaged place) →
@@ -71,7 +74,8 @@ pub fn replay_to<R: RecordLog, S: Replays, D: Disk, L: ledger::Ledger>(
     ensures same { (S.rule state.new ≡ S.rule state.old) × (S.own state.new ≡ S.own state.old) }
     ensures counted { OnOk result (steps.new + from ≡ steps.old + end) }
     ensures few { steps.new + from ≤ steps.old + end }
-    ensures reads { ReadsFor D.Disk (R.content log.now) disk.old disk.new result }
+    ensures reads { OnlyReads D.Disk (R.content log.now).key.part
+        (result ≡ Err MendError.Fault) disk.old disk.new }
 {
     for place in from..end {
         let bytes = match log.get(disk, place, steps) {

@@ -4,7 +4,7 @@ ghost use Rattle.txn_base.specs.declared.file_id.FileId.{FileId};
 ghost use Rattle.txn_base.specs.Content.{settled, looked_at, Settles};
 ghost use Rattle.txn_base.specs.Disk.{ChangesOnly};
 ghost use Rattle.txn_base.specs.Moves.{After, FaultsIn};
-ghost use Rattle.txn_ledger.specs.Reading.{IsBackedOn};
+ghost use Rattle.txn_ledger.specs.Reading.{IsBackedOn, ReadsOn};
 ghost use Rattle.txn_replay.specs.Settling.{MayHaveSettled};
 
 use txn_base::{Disk, Failed};
@@ -21,6 +21,7 @@ pub fn settle_log<D: Disk, R: RecordLog>(log: &mut R, disk: &mut D) -> Result<()
         (R.stands (R.content log.old).key (D.seen disk.old) (R.content log.new).batches) }
     ensures unfound { OnErr result ((R.content log.new).standing ≡ settled → ⊥) }
     ensures backed { IsBackedOn R.RecordLog D.Disk disk.new (R.content log.new) }
+    ensures reads { ReadsOn R.RecordLog D.Disk disk.new (R.content log.new) }
     ensures images { After D.Disk (Settles R.mine R.stands (R.content log.old)) disk.old disk.new }
     ensures others { ChangesOnly (R.mine (R.content log.old).key)
         (D.seen disk.old) (D.seen disk.new) }

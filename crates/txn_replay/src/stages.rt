@@ -3,7 +3,7 @@ ghost use Rattle.std.specs.Prelude.{◌≡◌, ◌≤◌, ◌<◌, ◌+◌, ◌-
 ghost use Rattle.txn_base.specs.Frames.{records};
 ghost use Rattle.txn_ledger.specs.Reading.{ReadsOn};
 ghost use Rattle.txn_replay.specs.Fronts.{Takes, IsDamage};
-ghost use Rattle.txn_replay.specs.Reading.{ReadsFor};
+ghost use Rattle.txn_replay.specs.Reading.{IsReadTo, OnlyReads};
 
 use crate::grammar::Grammar;
 use crate::replays::{Replays, replay_to};
@@ -65,6 +65,8 @@ impl<'a, S: Stages> Grammar for Step<'a, S> {
     ghost lawful = { S.lawful };
 
     ghost goes_on = { S.goes_on };
+
+    ghost ends_in = { S.ends_in };
 }
 
 impl<'a, S: Stages> Model for Step<'a, S> {
@@ -80,12 +82,16 @@ impl<'a, S: Stages> Model for Step<'a, S> {
 
 impl<'a, S: Stages> Replays for Step<'a, S> {
     ghost use Rattle.std.specs.Prelude.{◌++◌};
+    ghost use Rattle.std.proofs.Common.{sym};
+    ghost use Rattle.std.proofs.Math.Seq.{take-append_seam};
 
     ghost front = { λ s. s.own ++ s.staged };
 
     ghost rule = { λ s. s.rule };
 
     ghost own = { λ s. s.own };
+
+    ghost own_first = { λ s. sym (take-append_seam s.own s.staged) };
 
     fn len(&self) -> u64 {
         self.count
@@ -117,10 +123,8 @@ pub fn replay_step<R: RecordLog, S: Stages, D: Disk, L: ledger::Ledger>(
     step: u64,
     steps: &mut Steps<L>,
 ) -> Result<(), MendError>
-    requires at { (at.old ≡ length (S.front state.old)) ×
-        (at.old ≤ length (records (R.content log.now).batches)) }
-    requires lawful { S.lawful (S.rule state.old) (S.front state.old) }
-    requires reads { ReadsOn R.RecordLog D.Disk disk.old (R.content log.now) }
+    requires ready { IsReadTo S.Grammar (S.rule state.old) (S.front state.old) at.old
+        R.RecordLog D.Disk disk.old (R.content log.now) }
     ensures at { at.new ≡ length (S.front state.new) }
     ensures grown { OnOk result
         (at.new ≡ min (length (records (R.content log.now).batches)) (at.old + step)) }
@@ -134,7 +138,8 @@ pub fn replay_step<R: RecordLog, S: Stages, D: Disk, L: ledger::Ledger>(
     ensures counted { OnOk result (steps.new + at.old ≡ steps.old + at.new) }
     ensures few { steps.new + at.old ≤ steps.old +
         min (length (records (R.content log.now).batches)) (at.old + step) }
-    ensures reads { ReadsFor D.Disk (R.content log.now) disk.old disk.new result }
+    ensures reads { OnlyReads D.Disk (R.content log.now).key.part
+        (result ≡ Err MendError.Fault) disk.old disk.new }
 {
     let end = log.len().min(at.saturating_add(step));
     let staged = stage(alloc, log, state, disk, *at, end, steps)?;
@@ -155,22 +160,23 @@ pub fn replay_whole<R: RecordLog, S: Stages, D: Disk, L: ledger::Ledger>(
     step: u64,
     steps: &mut Steps<L>,
 ) -> Result<(), MendError>
-    requires at { (at.old ≡ length (S.front state.old)) ×
-        (at.old ≤ length (records (R.content log.now).batches)) }
+    requires ready { IsReadTo S.Grammar (S.rule state.old) (S.front state.old) at.old
+        R.RecordLog D.Disk disk.old (R.content log.now) }
     requires step { 1 ≤ step }
-    requires lawful { S.lawful (S.rule state.old) (S.front state.old) }
-    requires reads { ReadsOn R.RecordLog D.Disk disk.old (R.content log.now) }
     ensures at { at.new ≡ length (S.front state.new) }
-    ensures whole { OnOk result (at.new ≡ length (records (R.content log.now).batches)) }
+    ensures whole { OnOk result ((at.new ≡ length (records (R.content log.now).batches)) ×
+        (steps.new + at.old ≡ steps.old + at.new)) }
     ensures within { (at.old ≤ at.new) × (at.new ≤ length (records (R.content log.now).batches)) }
     ensures taken { Takes S.Grammar (S.rule state.old) D.tells (R.content log.now).batches
         (S.front state.old) (S.front state.new) }
     ensures damaged { (place : ℕ) → result ≡ Err (MendError.Damaged place) →
         IsDamage S.Grammar (S.rule state.old) D.tells (R.content log.now).batches
-        (S.front state.old) at.new (length (records (R.content log.now).batches)) place }
+        (S.front state.old) at.new (min (length (records (R.content log.now).batches)) (at.new + step)) place }
     ensures rule { S.rule state.new ≡ S.rule state.old }
-    ensures few { steps.new + at.old ≤ steps.old + length (records (R.content log.now).batches) }
-    ensures reads { ReadsFor D.Disk (R.content log.now) disk.old disk.new result }
+    ensures few { steps.new + at.old ≤ steps.old +
+        min (length (records (R.content log.now).batches)) (at.new + step) }
+    ensures reads { OnlyReads D.Disk (R.content log.now).key.part
+        (result ≡ Err MendError.Fault) disk.old disk.new }
 {
     let total = log.len();
     while *at < total {
@@ -202,7 +208,8 @@ fn stage<R: RecordLog, S: Stages, D: Disk, L: ledger::Ledger>(
         (S.front state.now) at end place }
     ensures counted { OnOk result (steps.new + at ≡ steps.old + end) }
     ensures few { steps.new + at ≤ steps.old + end }
-    ensures reads { ReadsFor D.Disk (R.content log.now) disk.old disk.new result }
+    ensures reads { OnlyReads D.Disk (R.content log.now).key.part
+        (result ≡ Err MendError.Fault) disk.old disk.new }
 {
     let mut step = Step {
         state,

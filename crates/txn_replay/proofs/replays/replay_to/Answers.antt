@@ -1,8 +1,8 @@
-use Rattle.std.proofs.Common.{◌≡◌, ℕ, true, ◌<◌, [], ◌∷◌, ◌++◌, length, length-append, take, slice_index_or, get_or, ap, sym, ◌∙◌, subst, arith, rules}
+use Rattle.std.proofs.Common.{◌≡◌, ℕ, true, ◌<◌, [], ◌∷◌, ◌++◌, length, length-append, take, slice_index_or, ap, sym, ◌∙◌, subst, arith, rules}
 use Rattle.std.proofs.lemmas.List.{get_or_read, take-append-le}
 use Rattle.txn_base.specs.Frames.{records}
 use Rattle.txn_replay.specs.Fronts.{record_at}
-use Rattle.txn_replay.proofs.Fronts.{first_more, front_more, entries_more, first_bad_at}
+use Rattle.txn_replay.proofs.Fronts.{first_more, front_more, entries_more}
 use Rattle.txn_replay.proofs.replays.replay_to.Goals as goal
 
 pub loop-place-preserved : goal.loop-place-preserved

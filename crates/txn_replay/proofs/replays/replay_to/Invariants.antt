@@ -1,5 +1,5 @@
 use Rattle.std.proofs.Common.{◌≡◌, ◌+◌, length, max}
-use Rattle.txn_base.specs.Disk.{Same, CountsFaults}
+use Rattle.txn_base.specs.Disk.{Same}
 use Rattle.txn_base.specs.Moves.{After, FaultsIn}
 use Rattle.txn_replay.specs.Fronts.{Takes}
 use Rattle.txn_replay.proofs.replays.replay_to.Given as goal

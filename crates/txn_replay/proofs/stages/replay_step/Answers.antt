@@ -13,4 +13,4 @@ returns-in_err-staged-clause-damaged g c = λ place is.
     record { from_on = bad.from_on; before_end = search rules; first_bad = bad.first_bad }
 
 pub returns-then-is_err-clause-taken : goal.returns-then-is_err-clause-taken
-returns-then-is_err-clause-taken g c = takes_none g.S.Grammar _ _ _ _ _ (search rules) c.requires.lawful
+returns-then-is_err-clause-taken g c = takes_none g.S.Grammar _ _ _ _ _ (search rules) c.requires.ready.lawful

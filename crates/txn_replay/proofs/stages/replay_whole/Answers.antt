@@ -1,7 +1,7 @@
 use Rattle.std.proofs.Common.{◌≡◌, ℕ, Err, subst, rules}
 use Rattle.std.proofs.lemmas.Result.{err_from_is_err_and}
 use Rattle.txn_base.specs.declared.part.MendError.TheVariants.{Damaged}
-use Rattle.txn_replay.specs.Fronts.{IsFirstBad}
+use Rattle.txn_replay.specs.Fronts.{FirstBadRecord}
 use Rattle.txn_replay.proofs.stages.replay_whole.Goals as goal
 
 pub returns-in_err-replay_step-clause-damaged : goal.returns-in_err-replay_step-clause-damaged
@@ -14,6 +14,6 @@ returns-in_err-replay_step-clause-damaged g c = λ place is.
       from_on = search rules;
       before_end = search rules;
       first_bad = λ told was.
-          subst (λ (rule : ℕ). IsFirstBad g.S.Grammar rule (g.R.RecordLog.content c.args.log.now).batches place) c.loop-at.invariant.rule
+          subst (λ (rule : ℕ). FirstBadRecord g.S.Grammar rule (g.R.RecordLog.content c.args.log.now).batches place) c.loop-at.invariant.rule
           (bad.first_bad told (c.loop-at.invariant.taken.taken told was));
     }

@@ -1,4 +1,4 @@
-use Rattle.std.proofs.Common.{◌≡◌, ℕ, List, Err, ◌++◌, length, take, append-nil, sym, ap, ◌∙◌, subst, rules}
+use Rattle.std.proofs.Common.{◌≡◌, List, Err, ◌++◌, length, take, append-nil, sym, ap, ◌∙◌, subst, rules}
 use Rattle.std.proofs.lemmas.Result.{err_from_is_err_and}
 use Rattle.txn_base.specs.declared.part.MendError.TheVariants.{Damaged}
 use Rattle.txn_replay.specs.Fronts.{AreEntriesOf, AreFirstOf, AreTakenFrom}
