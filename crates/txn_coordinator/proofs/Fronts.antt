@@ -1,12 +1,11 @@
 -- The entries of a coordinator beside those of its log.
-use Rattle.std.proofs.Common.{◌≡◌, ℕ, ◌≤◌, Bool, true, IsTrue, length-append, arith, ⊎_elim, List, [], ◌∷◌, ◌++◌, length, map, take, All, refl, sym, ap, ◌∙◌, subst}
-use Rattle.std.proofs.lemmas.List.{take_all, take-append-le, length-map, map-append}
+use Rattle.std.proofs.Common.{◌≡◌, ℕ, ◌≤◌, Bool, true, IsTrue, length-append, arith, List, [], ◌∷◌, ◌++◌, length, take, sym, ap, ◌∙◌, subst}
+use Rattle.std.proofs.lemmas.List.{take_all, length-map}
 use Rattle.txn_base.specs.declared.entry.CoordEntry.{CoordEntry}
-use Rattle.txn_base.specs.Content.{LedgerContent, Standing, settled, in_flight, looked_at, landed, with_flight}
-use Rattle.txn_base.specs.Frames.{Batch, records}
-use Rattle.txn_base.specs.Records.{IsCoordEntry, IsCoordRecord}
+use Rattle.txn_base.specs.Content.{LedgerContent, landed}
+use Rattle.txn_base.specs.Frames.{records}
+use Rattle.txn_base.specs.Records.{IsCoordEntry}
 use Rattle.txn_base.specs.Decoded.{coord_entry_of, coord_entries}
-use Rattle.txn_coordinator.specs.Mending.{IsSettledFrom, AreReplayed}
 use Rattle.txn_coordinator.specs.View.{coord_batch, CoordinatorInvariant}
 use Rattle.txn_table.proofs.Laws.{lawful_more, records-push, coord_entries-push}
 use Rattle.txn_table.specs.Table.{may_follow}
@@ -44,36 +43,3 @@ invariant_more {n = n} {s0 = s0} {s2 = s2} {f0 = f0} {f2 = f2} e was whole allow
       few_named = was.few_named;
       lawful = subst (λ (f : List CoordEntry). CoordLawful n (coord_skeletons f)) (sym now_front) (lawful_more n f0 e was.lawful allowed);
     }
-
-entries-append : (a : List Batch) (b : Batch) → coord_entries (a ++ b ∷ []) ≡ coord_entries a ++ map coord_entry_of b
-entries-append a b = ap (map coord_entry_of) (records-push a b) ∙ map-append coord_entry_of (records a) b
-
--- with what was in flight or without
-kept_front : (batches : List Batch) (standing : Standing) (n : ℕ) → n ≤ length (records batches) → take n (coord_entries (with_flight batches standing)) ≡ take n (coord_entries batches)
-kept_front batches settled n le = refl
-kept_front batches looked_at n le = refl
-kept_front batches (in_flight batch) n le =
-    ap (take n) (entries-append batches batch) ∙ take-append-le n (coord_entries batches) (map coord_entry_of batch) (omega (arith, le, length-map (records batches) coord_entry_of))
-
-pub front_settled : (s t : LedgerContent) (front : List CoordEntry) (at : ℕ) → at ≡ length front → length front ≤ length (records s.batches) → IsSettledFrom s t → front ≡ take (length front) (coord_entries s.batches) → front ≡ take at (coord_entries t.batches)
-front_settled s t front at is within how was =
-    was ∙ ⊎_elim
-    (λ kept_one. sym (ap (λ (c : LedgerContent). take (length front) (coord_entries c.batches)) kept_one ∙ kept_front s.batches s.standing (length front) within))
-    (λ dropped_one. sym (ap (λ (c : LedgerContent). take (length front) (coord_entries c.batches)) dropped_one))
-    how ∙ ap (λ n. take n (coord_entries t.batches)) (sym is)
-
-kept_records : (batches : List Batch) (standing : Standing) (n : ℕ) → n ≤ length (records batches) → take n (records (with_flight batches standing)) ≡ take n (records batches)
-kept_records batches settled n le = refl
-kept_records batches looked_at n le = refl
-kept_records batches (in_flight batch) n le = ap (take n) (records-push batches batch) ∙ take-append-le n (records batches) batch le
-
-pub replayed_settled : (named : ℕ) (s t : LedgerContent) (front : List CoordEntry) → length front ≤ length (records s.batches) → IsSettledFrom s t → AreReplayed named s front → AreReplayed named t front
-replayed_settled named s t front within how was = record {
-  entries = front_settled s t front (length front) refl within how was.entries;
-  grammar = subst (All (λ r. IsCoordRecord r (coord_entry_of r)))
-      (⊎_elim
-      (λ kept_one. sym (ap (λ (c : LedgerContent). take (length front) (records c.batches)) kept_one ∙ kept_records s.batches s.standing (length front) within))
-      (λ dropped_one. sym (ap (λ (c : LedgerContent). take (length front) (records c.batches)) dropped_one))
-      how) was.grammar;
-  lawful = was.lawful;
-}

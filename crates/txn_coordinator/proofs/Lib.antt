@@ -2,5 +2,4 @@ pub mod Laws
 pub mod Allowed
 pub mod Fronts
 pub mod Replayed
-pub mod Steps
 pub mod BatchRecords

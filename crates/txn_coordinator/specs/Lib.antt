@@ -1,3 +1,4 @@
 pub mod Calls
 pub mod Mending
+pub mod ReplayLaws
 pub mod View

@@ -1,22 +1,25 @@
 -- What a step of a coordinator's replay does.
-use Rattle.std.specs.Prelude.{◌≡◌, ◌⊎◌, ◌↔◌, ℕ, ◌+◌, ◌<◌, ◌≤◌, min, ◌||◌, false, if◌then◌else◌, IsTrue, List, [], length, take, All, slice_index_or}
+use Rattle.std.specs.Prelude.{◌≡◌, ◌⊎◌, ◌↔◌, ℕ, ◌+◌, ◌<◌, ◌≤◌, min, ◌||◌, false, if◌then◌else◌, IsTrue, List, length, take, All, slice_index_or}
 use Rattle.txn_base.specs.declared.entry.CoordEntry.{CoordEntry}
 use Rattle.txn_base.specs.Content.{LedgerContent, kept, dropped}
 use Rattle.txn_base.specs.Frames.{Record, records}
-use Rattle.txn_base.specs.Records.{IsCoordRecord}
+use Rattle.txn_base.specs.Records.{IsCoordEntry, IsCoordRecord}
 use Rattle.txn_base.specs.Decoded.{coord_entry_of, coord_entries}
 use Rattle.txn_model.specs.Skeletons.{coord_skeleton, coord_skeletons}
 use Rattle.txn_model.specs.Coord.{coord_allows, CoordLawful}
 use Rattle.txn_model.specs.Deadlines.{low_of}
+use Rattle.txn_replay.specs.Fronts.{record_at}
 use Rattle.txn_coordinator.specs.View.{CoordView, coord_total}
 
 -- In a ledger, the record at a place.
 abbrev pub record_in : LedgerContent → ℕ → Record
-record_in content place = slice_index_or (records content.batches) place []
+record_in content place = record_at content.batches place
 
--- From this place on, the records of a ledger are those of these entries.
-abbrev pub AreRecordsFrom : LedgerContent → ℕ → List CoordEntry → Type 0
-AreRecordsFrom content at entries = (k : ℕ) (e : CoordEntry) → k < length entries → IsCoordRecord (record_in content (at + k)) (slice_index_or entries k e)
+-- Of n named parts, these entries are lawful, and their fields lie in their ranges.
+pub record AreNamedEntries (n : ℕ) (c : List CoordEntry) : Type 0 where
+  pub few : n ≤ 62
+  pub entries : All IsCoordEntry c
+  pub lawful : CoordLawful n (coord_skeletons c)
 
 -- From this place to before that one, the records of a ledger are those of these entries, at the same places.
 abbrev pub AreRecordsTo : LedgerContent → ℕ → ℕ → List CoordEntry → Type 0

@@ -10,6 +10,7 @@ ghost use Rattle.txn_model.specs.Deadlines.{low_of, first_undriven};
 ghost use Rattle.txn_coordinator.specs.View.{coord_total, state_of, first_view};
 
 use crate::log_entry::RECORD;
+use crate::replay::NamedTable;
 use std::alloc::{AllocError, Global};
 use std::marker::Model;
 use txn_base::{Bytes, Decision, Limits, PartState, Status, TxnId};
@@ -26,12 +27,10 @@ mod refusals;
 pub struct Coordinator<R: RecordLog> {
     alloc: Global,
     log: R,
-    table: Table,
+    rebuilt: NamedTable,
     /// Room for the record that is on its way to the log.
     bytes: Bytes,
     limits: Limits,
-    /// How many parts have a name, numbered from 1.
-    named: u32,
     /// How many records the table stands for.
     at: u64,
     /// These are all of the log's.
@@ -51,9 +50,9 @@ impl<R: RecordLog> Model for Coordinator<R> {
     ghost use Rattle.std.specs.Prelude.{if◌then◌else◌};
     ghost use Rattle.txn_base.specs.Room.{capacity};
 
-    ghost view = { λ c. record { content = R.content c.log; front = c.table.front; whole = c.whole; reserved = if c.reserved then 1 else 0; opened_low = c.opened_low; was_whole = c.was_whole; limits = c.limits; named = c.named } };
+    ghost view = { λ c. record { content = R.content c.log; front = c.rebuilt.table.front; whole = c.whole; reserved = if c.reserved then 1 else 0; opened_low = c.opened_low; was_whole = c.was_whole; limits = c.limits; named = c.rebuilt.named } };
 
-    ghost invariant = { λ c. CoordinatorInvariant c.named (R.content c.log) c.table.front c.at c.whole c.was_whole c.reserved (R.spare c.log) (R.room c.log) (capacity c.bytes) };
+    ghost invariant = { λ c. CoordinatorInvariant c.rebuilt.named (R.content c.log) c.rebuilt.table.front c.at c.whole c.was_whole c.reserved (R.spare c.log) (R.room c.log) (capacity c.bytes) };
 }
 
 impl<R: RecordLog + Drop> Coordinator<R> {
@@ -81,10 +80,12 @@ impl<R: RecordLog + Drop> Coordinator<R> {
         Ok(Coordinator {
             alloc,
             log,
-            table: Table::new(alloc),
+            rebuilt: NamedTable {
+                table: Table::new(alloc),
+                named,
+            },
             bytes,
             limits: *limits,
-            named,
             at: 0,
             whole: false,
             reserved: false,
@@ -99,42 +100,42 @@ impl<R: RecordLog> Coordinator<R> {
     pub fn status(&self, txn: TxnId) -> Option<Status>
         ensures { result ≡ status_of (coord_skeletons self.now.front) txn }
     {
-        self.table.status(txn)
+        self.rebuilt.table.status(txn)
     }
 
     /// The parts of a transaction: bit p stands for part p.
     pub fn parts(&self, txn: TxnId) -> u64
         ensures { (p : ℕ) → bit_at result p ≡ (if in_parts (coord_skeletons self.now.front) txn p then 1 else 0) }
     {
-        self.table.parts(txn)
+        self.rebuilt.table.parts(txn)
     }
 
     /// How a transaction is to end, if that is decided.
     pub fn decision(&self, txn: TxnId) -> Option<Decision>
         ensures { result ≡ decision_of (coord_skeletons self.now.front) txn }
     {
-        self.table.decision(txn)
+        self.rebuilt.table.decision(txn)
     }
 
     /// The least numbered transaction that is decided and not closed.
     pub fn first_undriven(&self) -> Option<TxnId>
         ensures { result ≡ first_undriven self.now.front }
     {
-        self.table.first_undriven()
+        self.rebuilt.table.first_undriven()
     }
 
     /// How many transactions were begun.
     pub fn count(&self) -> u64
         ensures { result ≡ count_new (coord_skeletons self.now.front) }
     {
-        self.table.count()
+        self.rebuilt.table.count()
     }
 
     /// The low watermark: the least number of a transaction that isn't closed, or their count.
     pub fn low(&self) -> u64
         ensures { result ≡ low_of self.now.front }
     {
-        self.table.low()
+        self.rebuilt.table.low()
     }
 
     /// The number of records in its log.
@@ -163,7 +164,7 @@ impl<R: RecordLog> Coordinator<R> {
         ensures reserved { self.now.reserved ≤ 1 }
         ensures named { self.now.named ≤ 62 }
     {
-        let _count = self.table.count();
+        let _count = self.rebuilt.table.count();
         if self.whole {
             return PartState::Whole;
         }

@@ -17,6 +17,19 @@ records-append a b = flat_map-append (λ batch. batch) a b
 records-push : (batches : List Batch) (batch : Batch) → records (batches ++ batch ∷ []) ≡ records batches ++ batch
 records-push batches batch = records-append batches (batch ∷ []) ∙ ap (λ (l : List Record). records batches ++ l) (append-nil batch)
 
+-- What holds of batches, with any more or without, holds of them once what was in flight was settled.
+once_settled : (P : List Batch → Type 0) (before after : LedgerContent) → MayHaveSettled before after → P before.batches → ((batch : Batch) → P (before.batches ++ batch ∷ [])) → P after.batches
+once_settled P before after how was more = ⊎_elim (λ same. over after before.batches (ap (λ (l : LedgerContent). l.batches) same) was)
+    (λ flight. ⊎_elim (λ is_kept. over after (with_flight before.batches before.standing) (ap (λ (l : LedgerContent). l.batches) is_kept) (either before.standing)) (λ is_dropped. over after before.batches (ap (λ (l : LedgerContent). l.batches) is_dropped) was) flight.1) how
+  where
+    over : (content : LedgerContent) (batches : List Batch) → content.batches ≡ batches → P batches → P content.batches
+    over content batches same = subst P (sym same)
+
+    either : (standing : Standing) → P (with_flight before.batches standing)
+    either settled = was
+    either looked_at = was
+    either (in_flight batch) = more batch
+
 module _ {S E : Type 0} (g : Ghosts S E) where
   pub no_front : (batches : List Batch) (front : List E) → front ≡ [] → AreTakenFrom g batches front
   no_front batches front none = subst (AreTakenFrom g batches) (sym none) (record { entries = refl; in_grammar = λ k d lt. absurd (omega (arith, lt)) })
@@ -96,29 +109,26 @@ module _ {S E : Type 0} (g : Ghosts S E) where
             (All-append (λ r. g.is_record r (g.entry_of r)) rs batch (subst (All (λ r. g.is_record r (g.entry_of r))) first was.in_grammar) good);
       }
 
-  -- with batches behind
-  front_longer : (before after more : List Batch) (front : List E) → length front ≤ length (records before) → after ≡ before ++ more → AreTakenFrom g before front → AreTakenFrom g after front
-  front_longer before after more front within grown was =
-      let n = length front in let rs = records before in
-      let log : records after ≡ rs ++ records more = ap records grown ∙ records-append before more in
-      let same : take n (records after) ≡ take n rs = ap (take n) log ∙ take-append-le n rs (records more) within in
-      let entries : take n (entries_in g after) ≡ take n (entries_in g before) =
-      ap (λ l. take n (map g.entry_of l)) log ∙ ap (take n) (map-append g.entry_of rs (records more)) ∙ take-append-le n (entries_in g before) (map g.entry_of (records more)) (omega (arith, within, length-map rs g.entry_of)) in
-      record {
-        entries = was.entries ∙ sym entries;
-        in_grammar = subst (All (λ r. g.is_record r (g.entry_of r))) (sym same) was.in_grammar;
-      }
+  module _ (before after more : List Batch) (front : List E) (within : length front ≤ length (records before)) (grown : after ≡ before ++ more) where
+    log : records after ≡ records before ++ records more
+    log = ap records grown ∙ records-append before more
+
+    -- with batches behind
+    first_longer : AreFirstOf g before front → AreFirstOf g after front
+    first_longer was =
+        was ∙ sym (ap (λ l. take (length front) (map g.entry_of l)) log ∙ ap (take (length front)) (map-append g.entry_of (records before) (records more))
+        ∙ take-append-le (length front) (entries_in g before) (map g.entry_of (records more)) (omega (arith, within, length-map (records before) g.entry_of)))
+
+    front_longer : AreTakenFrom g before front → AreTakenFrom g after front
+    front_longer was = record {
+      entries = first_longer was.entries;
+      in_grammar = subst (All (λ r. g.is_record r (g.entry_of r))) (sym (ap (take (length front)) log ∙ take-append-le (length front) (records before) (records more) within)) was.in_grammar;
+    }
 
   -- once what was in flight was settled
-  pub front_settled : (before after : LedgerContent) (front : List E) → length front ≤ length (records before.batches) → MayHaveSettled before after
-      → AreTakenFrom g before.batches front → AreTakenFrom g after.batches front
-  front_settled before after front within how was = ⊎_elim (λ same. stays (ap (λ (l : LedgerContent). l.batches) same))
-      (λ flight. ⊎_elim (λ is_kept. kept_is before.standing (ap (λ (l : LedgerContent). l.batches) is_kept)) (λ is_dropped. stays (ap (λ (l : LedgerContent). l.batches) is_dropped)) flight.1) how
-    where
-      stays : after.batches ≡ before.batches → AreTakenFrom g after.batches front
-      stays same = subst (λ (l : List Batch). AreTakenFrom g l front) (sym same) was
+  module _ (before after : LedgerContent) (front : List E) (within : length front ≤ length (records before.batches)) (how : MayHaveSettled before after) where
+    pub first_settled : AreFirstOf g before.batches front → AreFirstOf g after.batches front
+    first_settled was = once_settled (λ (l : List Batch). AreFirstOf g l front) before after how was (λ batch. first_longer before.batches (before.batches ++ batch ∷ []) (batch ∷ []) front within refl was)
 
-      kept_is : (standing : Standing) → after.batches ≡ with_flight before.batches standing → AreTakenFrom g after.batches front
-      kept_is settled same = stays same
-      kept_is looked_at same = stays same
-      kept_is (in_flight batch) same = front_longer before.batches after.batches (batch ∷ []) front within same was
+    pub front_settled : AreTakenFrom g before.batches front → AreTakenFrom g after.batches front
+    front_settled was = once_settled (λ (l : List Batch). AreTakenFrom g l front) before after how was (λ batch. front_longer before.batches (before.batches ++ batch ∷ []) (batch ∷ []) front within refl was)

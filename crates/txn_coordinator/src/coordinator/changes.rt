@@ -50,8 +50,8 @@ impl<R: RecordLog> Coordinator<R> {
         ensures cause { FaultsIn D.Disk (self.old).content.key.part disk.old disk.new (result ≡ Err CoordError.Fault) }
     {
         self.log.reserve(2, FRAME)?;
-        self.table.reserve(1)?;
-        match log_entry(&mut self.log, &mut self.table, &mut self.bytes, disk, entry) {
+        self.rebuilt.table.reserve(1)?;
+        match log_entry(&mut self.log, &mut self.rebuilt.table, &mut self.bytes, disk, entry) {
             Ok(()) => {
                 self.at = self.log.len();
                 Ok(())
@@ -71,7 +71,7 @@ impl<R: RecordLog> Coordinator<R> {
     {
         TxnId {
             most: 0,
-            least: self.table.count(),
+            least: self.rebuilt.table.count(),
         }
     }
 
@@ -98,7 +98,7 @@ impl<R: RecordLog> Coordinator<R> {
         ensures others { ChangesOnly (R.mine (self.old).content.key) (D.seen disk.old) (D.seen disk.new) }
         ensures cause { FaultsIn D.Disk (self.old).content.key.part disk.old disk.new (result ≡ Err CoordError.Fault) }
     {
-        let _ = &self.table;
+        let _ = &self.rebuilt.table;
         if let Some(refusal) = self.begin_refusal(timeout) {
             return Err(refusal);
         }
@@ -130,7 +130,7 @@ impl<R: RecordLog> Coordinator<R> {
         if let Some(refusal) = self.add_refusal(txn, part) {
             return Err(refusal);
         }
-        if self.table.has_part(txn, part) {
+        if self.rebuilt.table.has_part(txn, part) {
             return Ok(());
         }
         self.add_entry(disk, CoordEntry::AddPart { txn, part })
@@ -162,7 +162,7 @@ impl<R: RecordLog> Coordinator<R> {
         if let Some(refusal) = self.decide_refusal(txn, decision) {
             return Err(refusal);
         }
-        match self.table.status(txn) {
+        match self.rebuilt.table.status(txn) {
             None => Err(CoordError::NotFound),
             Some(Status::Open) => {
                 self.add_entry(disk, decision_entry(txn, decision))?;
@@ -178,8 +178,8 @@ impl<R: RecordLog> Coordinator<R> {
         ensures fits { IsCoordEntry result }
         ensures allowed { is_undriven (status_in_view self.now txn) ≡ true → may_follow self.now.named self.now.front result ≡ true }
     {
-        let _count = self.table.count();
-        let decision = self.table.decision(txn).unwrap_or(Decision::Commit);
+        let _count = self.rebuilt.table.count();
+        let decision = self.rebuilt.table.decision(txn).unwrap_or(Decision::Commit);
         closing_entry(txn, decision)
     }
 
@@ -200,7 +200,7 @@ impl<R: RecordLog> Coordinator<R> {
     {
         let entry = self.close_of(txn);
         self.reserved = false;
-        match log_entry(&mut self.log, &mut self.table, &mut self.bytes, disk, entry) {
+        match log_entry(&mut self.log, &mut self.rebuilt.table, &mut self.bytes, disk, entry) {
             Ok(()) => {
                 self.at = self.log.len();
                 Ok(())

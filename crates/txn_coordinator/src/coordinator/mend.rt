@@ -12,33 +12,11 @@ ghost use Rattle.txn_model.specs.Skeletons.{coord_skeletons};
 ghost use Rattle.txn_coordinator.specs.View.{coord_total, IsFrontOf};
 
 use crate::coordinator::Coordinator;
-use crate::replay::replay;
 use std::sync::ledger;
-use txn_base::{Disk, Failed, MendError, Progress, Steps};
+use txn_base::{Disk, MendError, Progress, Steps};
 use txn_ledger::RecordLog;
+use txn_replay::{replay_step, settle_log};
 use txn_table::Table;
-
-/// Settles a log that isn't settled.
-fn settle_log<D: Disk, R: RecordLog>(log: &mut R, disk: &mut D) -> Result<(), Failed>
-    requires standing { (R.content log.old).standing ≡ looked_at → ⊥ }
-    requires backed { IsBackedOn R.RecordLog D.Disk disk.old (R.content log.old) }
-    ensures ok { OnOk result (IsSettledFrom (R.content log.old) (R.content log.new)) }
-    ensures err { OnErr result (R.content log.new ≡ R.content log.old) }
-    ensures found { D.tells → OnOk result (R.stands (R.content log.old).key (D.seen disk.old) (R.content log.new).batches) }
-    ensures unfound { OnErr result ((R.content log.new).standing ≡ settled → ⊥) }
-    ensures backed { IsBackedOn R.RecordLog D.Disk disk.new (R.content log.new) }
-    ensures images { After D.Disk (Settles R.mine R.stands (R.content log.old)) disk.old disk.new }
-    ensures others { ChangesOnly (R.mine (R.content log.old).key) (D.seen disk.old) (D.seen disk.new) }
-    ensures cause { FaultsIn D.Disk (R.content log.old).key.part disk.old disk.new (IsErr result) }
-{
-    if log.is_settled() {
-        return Ok(());
-    }
-    match log.settle(disk) {
-        Ok(_) => Ok(()),
-        Err(failed) => Err(failed),
-    }
-}
 
 /// The low watermark of the opening: that of the moment when a coordinator is whole for the first time.
 fn opening_low(before: u64, was_whole: bool, whole: bool, table: &Table) -> u64
@@ -54,6 +32,7 @@ impl<R: RecordLog> Coordinator<R> {
     /// Settles the log, and adds the entries of its next records: `step` of them, or all that are left. Each is read once.
     /// An entry that adds a part that has no name isn't allowed. A step that is refused adds none. On a coordinator that is
     /// whole it does nothing.
+    #[tactic(auto, using(crate::proofs::Replayed::settled_from))]
     pub fn mend_step<D: Disk, L: ledger::Ledger>(
         &mut self,
         disk: &mut D,
@@ -96,23 +75,22 @@ impl<R: RecordLog> Coordinator<R> {
         if settle_log(&mut self.log, disk).is_err() {
             return Err(MendError::Fault);
         }
-        let total = self.log.len();
-        let end = total.min(self.at.saturating_add(self.limits.step));
-        replay(
+        let _count = self.rebuilt.table.count();
+        replay_step(
             self.alloc,
             &self.log,
-            &mut self.table,
-            self.named,
+            &mut self.rebuilt,
             disk,
-            self.at,
-            end,
+            &mut self.at,
+            self.limits.step,
             steps,
         )?;
-        let whole = end == total;
-        self.opened_low = opening_low(self.opened_low, self.was_whole, whole, &self.table);
+        let at = self.at;
+        let total = self.log.len();
+        let whole = at == total;
+        self.opened_low = opening_low(self.opened_low, self.was_whole, whole, &self.rebuilt.table);
         self.was_whole = self.was_whole || whole;
         self.whole = whole;
-        self.at = end;
-        Ok(Progress { at: end, total })
+        Ok(Progress { at, total })
     }
 }

@@ -24,7 +24,7 @@ impl<R: RecordLog> Coordinator<R> {
     fn window_refusal(&self) -> Option<CoordError>
         ensures { result ≡ window_refusal self.now }
     {
-        let count = self.table.count().saturating_sub(self.opened_low);
+        let count = self.rebuilt.table.count().saturating_sub(self.opened_low);
         if self.limits.window <= count {
             return Some(CoordError::Full {
                 what: What::Transactions,
@@ -53,10 +53,10 @@ impl<R: RecordLog> Coordinator<R> {
         requires { part < 64 }
         ensures { result ≡ add_refusal self.now txn part }
     {
-        match self.table.status(txn) {
+        match self.rebuilt.table.status(txn) {
             None => Some(CoordError::NotFound),
             Some(Status::Open) => {
-                if self.table.has_part(txn, part) {
+                if self.rebuilt.table.has_part(txn, part) {
                     return None;
                 }
                 self.log_refusal()
@@ -69,7 +69,7 @@ impl<R: RecordLog> Coordinator<R> {
     pub(crate) fn decide_refusal(&self, txn: TxnId, decision: Decision) -> Option<CoordError>
         ensures { result ≡ decide_refusal self.now txn decision }
     {
-        match self.table.status(txn) {
+        match self.rebuilt.table.status(txn) {
             None => Some(CoordError::NotFound),
             Some(status) => {
                 if opposes(decision, status) {

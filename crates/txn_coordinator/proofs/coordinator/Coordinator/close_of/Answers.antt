@@ -10,7 +10,7 @@ use Rattle.txn_coordinator.proofs.coordinator.Coordinator.close_of.Goals as goal
 
 pub returns-clause-allowed : goal.returns-clause-allowed
 returns-clause-allowed g c =
-    let e : c.self.inside.table.front ≡ c.args.self.now.front = ap (λ v. v.front) c.self.view_is in
+    let e : c.self.inside.rebuilt.table.front ≡ c.args.self.now.front = ap (λ v. v.front) c.self.view_is in
     λ undriven. closes_undriven c.args.self.now.named (coord_skeletons c.args.self.now.front) c.args.txn c.closing_entry.result
     (subst (λ (f : List CoordEntry). CoordLawful 62 (coord_skeletons f)) e c.count-count.ensures.kept.lawful)
     (c.closing_entry.ensures ∙ ap (closing_entry c.args.txn) (c.unwrap_or-decision.ensures ∙ ap (λ d. unwrap_or d Commit) (c.decision.ensures ∙ ap (λ f. decision_of (coord_skeletons f) c.args.txn) e))) undriven

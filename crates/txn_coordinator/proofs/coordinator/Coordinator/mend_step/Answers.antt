@@ -1,41 +1,61 @@
-use Rattle.std.proofs.Common.{◌≡◌, ℕ, Err, take, sym, ap, ◌∙◌, subst, rules}
+use Rattle.std.proofs.Common.{◌≡◌, ℕ, ◌+◌, ◌<◌, ◌≤◌, Err, length, take, sym, ap, subst, arith}
 use Rattle.std.proofs.lemmas.Result.{err_from_is_err_and}
 use Rattle.txn_base.specs.declared.part.MendError.TheVariants.{Damaged}
 use Rattle.txn_base.specs.Decoded.{coord_entries}
-use Rattle.txn_base.proofs.Laws.{begins_with}
-use Rattle.txn_coordinator.specs.Mending.{IsSettledFrom, AreReplayed, IsFirstBadRecord}
+use Rattle.txn_coordinator.specs.Mending.{record_in, AreReplayed, IsFirstBadRecord}
 use Rattle.txn_coordinator.specs.View.{CoordView, IsFrontOf}
-use Rattle.txn_coordinator.proofs.Fronts.{front_settled, replayed_settled}
+use Rattle.txn_coordinator.proofs.Replayed.{bad_entry, tied_settled, replayed_settled}
 use Rattle.txn_coordinator.proofs.coordinator.Coordinator.mend_step.Goals as goal
 
-pub returns-in_err-replay-clause-bad : goal.returns-in_err-replay-clause-bad
-returns-in_err-replay-clause-bad g c = λ told was place is.
+pub returns-in_err-replay_step-clause-damaged : goal.returns-in_err-replay_step-clause-damaged
+returns-in_err-replay_step-clause-damaged g c = λ place is.
     let p = err_from_is_err_and c.from_residual.result c.from_residual.ensures.1 in
-    let q = c.in_err-replay.was in
-    let told_so : c.replay.result ≡ Err (Damaged place) = cc (p.1, p.2, q) in
-    let how : IsSettledFrom (g.R.RecordLog.content c.self.inside.log) (g.R.RecordLog.content c.settle_log.new.log) = search rules in
+    let q = c.in_err-replay_step.was in
+    let told_so : c.replay_step.result ≡ Err (Damaged place) = cc (p.1, p.2, q) in
+    let bad = c.replay_step.ensures.damaged place told_so in
+    record {
+      from = subst (λ (v : CoordView). length v.front ≤ place) c.self.view_is (omega (arith, bad.from_on, c.self.invariant.at_is));
+      to = subst (λ (v : CoordView). place < length v.front + v.limits.step) c.self.view_is (omega (arith, bad.before_end, c.self.invariant.at_is));
+      within = omega (arith, bad.before_end);
+    }
+
+pub returns-in_err-replay_step-clause-bad : goal.returns-in_err-replay_step-clause-bad
+returns-in_err-replay_step-clause-bad g c = λ told was place is.
+    let p = err_from_is_err_and c.from_residual.result c.from_residual.ensures.1 in
+    let q = c.in_err-replay_step.was in
+    let told_so : c.replay_step.result ≡ Err (Damaged place) = cc (p.1, p.2, q) in
+    let here : AreReplayed c.self.inside.rebuilt.named (g.R.RecordLog.content c.settle_log.new.log) c.self.inside.rebuilt.table.front =
+    replayed_settled (g.R.RecordLog.content c.self.inside.log) (g.R.RecordLog.content c.settle_log.new.log) c.self.inside.rebuilt.table.front c.self.invariant.within c.settle_log.ensures.content c.self.inside.rebuilt.named
+    (subst (λ (v : CoordView). AreReplayed v.named v.content v.front) (sym c.self.view_is) was) in
+    let log = g.R.RecordLog.content c.settle_log.new.log in
+    let bad = (c.replay_step.ensures.damaged place told_so).first_bad told (record { entries = here.entries; in_grammar = here.grammar }) in
     subst (λ (n : ℕ). IsFirstBadRecord n (g.R.RecordLog.content c.settle_log.new.log) place) (ap (λ (v : CoordView). v.named) c.self.view_is)
-    (c.replay.ensures.bad told (replayed_settled c.self.inside.named (g.R.RecordLog.content c.self.inside.log) (g.R.RecordLog.content c.settle_log.new.log) c.self.inside.table.front c.self.invariant.within how (subst (λ (v : CoordView). AreReplayed v.named v.content v.front) (sym c.self.view_is) was)) place told_so)
+    (record { within = bad.within; grammar = bad.in_grammar; before = bad.before.lawful; bad = bad_entry c.self.inside.rebuilt.named (take place (coord_entries log.batches)) (record_in log place) bad.bad })
 
-pub returns-in_err-replay-clause-replayed : goal.returns-in_err-replay-clause-replayed
-returns-in_err-replay-clause-replayed g c = λ told was.
-    let how : IsSettledFrom (g.R.RecordLog.content c.self.inside.log) (g.R.RecordLog.content c.settle_log.new.log) = search rules in
-    subst (λ (n : ℕ). AreReplayed n (g.R.RecordLog.content c.settle_log.new.log) c.replay.new.table.front) (ap (λ (v : CoordView). v.named) c.self.view_is)
-    (c.replay.ensures.replayed told (replayed_settled c.self.inside.named (g.R.RecordLog.content c.self.inside.log) (g.R.RecordLog.content c.settle_log.new.log) c.self.inside.table.front c.self.invariant.within how (subst (λ (v : CoordView). AreReplayed v.named v.content v.front) (sym c.self.view_is) was)))
+pub returns-in_err-replay_step-clause-tied : goal.returns-in_err-replay_step-clause-tied
+returns-in_err-replay_step-clause-tied g c = λ told was.
+    c.replay_step.ensures.taken.first told
+    (tied_settled (g.R.RecordLog.content c.self.inside.log) (g.R.RecordLog.content c.settle_log.new.log) c.self.inside.rebuilt.table.front c.self.invariant.within c.settle_log.ensures.content (subst (λ (v : CoordView). IsFrontOf v) (sym c.self.view_is) was))
 
-pub returns-clause-replayed : goal.returns-clause-replayed
-returns-clause-replayed g c = λ told was.
-    let how : IsSettledFrom (g.R.RecordLog.content c.self.inside.log) (g.R.RecordLog.content c.settle_log.new.log) = search rules in
-    subst (λ (n : ℕ). AreReplayed n (g.R.RecordLog.content c.settle_log.new.log) c.replay.new.table.front) (ap (λ (v : CoordView). v.named) c.self.view_is)
-    (c.replay.ensures.replayed told (replayed_settled c.self.inside.named (g.R.RecordLog.content c.self.inside.log) (g.R.RecordLog.content c.settle_log.new.log) c.self.inside.table.front c.self.invariant.within how (subst (λ (v : CoordView). AreReplayed v.named v.content v.front) (sym c.self.view_is) was)))
+pub returns-in_err-replay_step-clause-replayed : goal.returns-in_err-replay_step-clause-replayed
+returns-in_err-replay_step-clause-replayed g c = λ told was.
+    let here : AreReplayed c.self.inside.rebuilt.named (g.R.RecordLog.content c.settle_log.new.log) c.self.inside.rebuilt.table.front =
+    replayed_settled (g.R.RecordLog.content c.self.inside.log) (g.R.RecordLog.content c.settle_log.new.log) c.self.inside.rebuilt.table.front c.self.invariant.within c.settle_log.ensures.content c.self.inside.rebuilt.named
+    (subst (λ (v : CoordView). AreReplayed v.named v.content v.front) (sym c.self.view_is) was) in
+    let now = c.replay_step.ensures.taken.taken told (record { entries = here.entries; in_grammar = here.grammar }) in
+    subst (λ (n : ℕ). AreReplayed n (g.R.RecordLog.content c.settle_log.new.log) c.replay_step.new.state.table.front) (ap (λ (v : CoordView). v.named) c.self.view_is)
+    (record { entries = now.entries; grammar = now.in_grammar; lawful = c.replay_step.ensures.taken.lawful.lawful })
 
 pub returns-clause-tied : goal.returns-clause-tied
 returns-clause-tied g c = λ told was.
-    let how : IsSettledFrom (g.R.RecordLog.content c.self.inside.log) (g.R.RecordLog.content c.settle_log.new.log) = search rules in
-    let here = front_settled (g.R.RecordLog.content c.self.inside.log) (g.R.RecordLog.content c.settle_log.new.log) c.self.inside.table.front c.self.inside.at c.self.invariant.at_is c.self.invariant.within how (subst (λ (v : CoordView). IsFrontOf v) (sym c.self.view_is) was) in
-    c.in_ok-replay.ensures.tied told here ∙ ap (λ n. take n (coord_entries (g.R.RecordLog.content c.settle_log.new.log).batches)) (sym c.in_ok-replay.ensures.grown)
+    c.replay_step.ensures.taken.first told
+    (tied_settled (g.R.RecordLog.content c.self.inside.log) (g.R.RecordLog.content c.settle_log.new.log) c.self.inside.rebuilt.table.front c.self.invariant.within c.settle_log.ensures.content (subst (λ (v : CoordView). IsFrontOf v) (sym c.self.view_is) was))
 
-pub replay-requires-clause-reads : goal.replay-requires-clause-reads
-replay-requires-clause-reads g c = λ told.
-    let on = g.R.RecordLog in
-    begins_with on.stands on.exactly on.begins g.met.R.RecordLog.stands_begins (g.D.Disk.image c.settle_log.new.disk) (on.content c.settle_log.new.log) c.settle_log.ensures.backed _ (g.met.D.Disk.seen_is_image _ told)
+pub returns-clause-replayed : goal.returns-clause-replayed
+returns-clause-replayed g c = λ told was.
+    let here : AreReplayed c.self.inside.rebuilt.named (g.R.RecordLog.content c.settle_log.new.log) c.self.inside.rebuilt.table.front =
+    replayed_settled (g.R.RecordLog.content c.self.inside.log) (g.R.RecordLog.content c.settle_log.new.log) c.self.inside.rebuilt.table.front c.self.invariant.within c.settle_log.ensures.content c.self.inside.rebuilt.named
+    (subst (λ (v : CoordView). AreReplayed v.named v.content v.front) (sym c.self.view_is) was) in
+    let now = c.replay_step.ensures.taken.taken told (record { entries = here.entries; in_grammar = here.grammar }) in
+    subst (λ (n : ℕ). AreReplayed n (g.R.RecordLog.content c.settle_log.new.log) c.replay_step.new.state.table.front) (ap (λ (v : CoordView). v.named) c.self.view_is)
+    (record { entries = now.entries; grammar = now.in_grammar; lawful = c.replay_step.ensures.taken.lawful.lawful })
