@@ -1,9 +1,8 @@
 //! The first difference between what a story says and what came.
 ghost use Rattle.std.specs.Prelude.{◌≡◌, OnOk};
 
-use crate::text::told;
-use crate::wrong::Wrong;
 use std::alloc::{AllocError, Global};
+use txn_story::{Wrong, hex_of, lines_in, told};
 
 /// The same text came.
 pub fn same_text(alloc: Global, what: &str, want: &str, came: &str) -> Result<(), Wrong>
@@ -31,20 +30,6 @@ pub fn same_bytes(alloc: Global, what: &str, want: &[u8], came: &[u8]) -> Result
         want: hex_of(alloc, want)?,
         came: hex_of(alloc, came)?,
     })
-}
-
-/// Bytes, as two digits each.
-pub fn hex_of(alloc: Global, bytes: &[u8]) -> Result<String, AllocError> {
-    let mut text = String::from_str(alloc, "hex")?;
-    for byte in bytes {
-        text.push_str(format!(in alloc; " {byte:02x}")?.as_str())?;
-    }
-    Ok(text)
-}
-
-/// The lines of these bytes, each with its newline.
-pub fn lines_in(alloc: Global, bytes: &[u8]) -> Result<Vec<&[u8]>, AllocError> {
-    bytes.split_inclusive(|byte| *byte == b'\n').collect(alloc)
 }
 
 /// The same lines came.

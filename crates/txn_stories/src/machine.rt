@@ -1,9 +1,9 @@
 //! The disk of a story, through faults and crashes.
-use crate::wrong::Wrong;
 use std::alloc::{AllocError, Global};
 use std::mem;
 use txn_base::FileId;
 use txn_memdisk::{Choice, FaultAt, MemDisk};
+use txn_story::Wrong;
 
 /// The disk of a story, or one for each thing that a crash may have left of it; and what there was before the last crash.
 #[derive(Drop)]

@@ -2,23 +2,17 @@
 //! they leave. It prints a line for each story, and ends with status 1 where one of them isn't told as it has to be.
 #![tactic(auto)]
 
-mod bounds;
 mod compare;
-mod frames;
 mod machine;
-mod names;
-mod page;
-mod script;
-mod story;
+mod running;
 mod sweep;
 mod teller;
-mod text;
-mod wrong;
+mod telling;
 
-use crate::story::{Story, Told, is_head};
-use crate::wrong::Wrong;
+use crate::telling::{Told, tell};
 use std::process::ExitCode;
 use std::{env, fs, io};
+use txn_story::{Story, Wrong, is_head};
 
 fn main(rt: HostRuntime) -> ExitCode {
     match tell_all(rt) {
@@ -37,48 +31,74 @@ fn tell_all(rt: HostRuntime) -> io::Result<bool> {
         if i == 0 && path.as_str() == "show" {
             is_shown = true;
         } else {
-            match fs::read_to_string(&rt, path.as_str()) {
-                Ok(text) => all = tell_file(rt, path.as_str(), text.as_str(), is_shown)? && all,
-                Err(_) => {
-                    println!(rt; "FAILED {path}: it can't be read")?;
-                    all = false;
-                }
-            }
+            all = tell_path(rt, path.as_str(), is_shown)? && all;
         }
     }
     Ok(all)
 }
 
-/// Tells the stories of a file.
-fn tell_file(rt: HostRuntime, path: &str, text: &str, is_shown: bool) -> io::Result<bool> {
-    let mut all = true;
+/// Tells the stories of the file at a path.
+fn tell_path(rt: HostRuntime, path: &str, is_shown: bool) -> io::Result<bool> {
+    match fs::read_to_string(&rt, path) {
+        Ok(text) => tell_text(rt, path, text.as_str(), is_shown),
+        Err(_) => {
+            println!(rt; "FAILED {path}: it can't be read")?;
+            Ok(false)
+        }
+    }
+}
+
+/// Tells the stories of a file's text.
+fn tell_text(rt: HostRuntime, path: &str, text: &str, is_shown: bool) -> io::Result<bool> {
     let mut story = Story::new(rt.alloc(), "", 0)?;
+    tell_each(rt, path, text, is_shown, &mut story)
+}
+
+/// Tells the stories of a text, where the lines before the first one belong to this.
+fn tell_each(
+    rt: HostRuntime,
+    path: &str,
+    text: &str,
+    is_shown: bool,
+    story: &mut Story,
+) -> io::Result<bool> {
+    let mut all = true;
     for (i, line) in text.lines().enumerate() {
         if is_head(line) {
-            all = tell_story(rt, path, &story, is_shown)? && all;
-            story = Story::new(rt.alloc(), line, i.saturating_add(1))?;
+            all = tell_story(rt, path, story, is_shown)? && all;
+            *story = Story::new(rt.alloc(), line, i.saturating_add(1))?;
         } else {
             story.add(line)?;
         }
     }
-    Ok(tell_story(rt, path, &story, is_shown)? && all)
+    Ok(tell_story(rt, path, story, is_shown)? && all)
 }
 
 /// Tells a story for each of its cases.
 fn tell_story(rt: HostRuntime, path: &str, story: &Story, is_shown: bool) -> io::Result<bool> {
     let mut all = true;
     for i in 0..story.times() {
-        let told = story.tell(i, is_shown)?;
-        let is_right = if is_shown {
-            show(rt, &told)?
-        } else if story.is_wrong {
-            report_wrong(rt, &told)?
-        } else {
-            report(rt, path, &told)?
-        };
-        all = is_right && all;
+        let told = tell(rt.alloc(), story, i, is_shown)?;
+        all = print_told(rt, path, &told, story.is_wrong, is_shown)? && all;
     }
     Ok(all)
+}
+
+/// Prints what there is to print of a story that was told. Whether it was told as it has to be.
+fn print_told(
+    rt: HostRuntime,
+    path: &str,
+    told: &Told,
+    is_wrong: bool,
+    is_shown: bool,
+) -> io::Result<bool> {
+    if is_shown {
+        show(rt, told)
+    } else if is_wrong {
+        report_wrong(rt, told)
+    } else {
+        report(rt, path, told)
+    }
 }
 
 /// Prints a story with what came.

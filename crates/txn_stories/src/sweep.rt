@@ -1,12 +1,10 @@
 //! Each call of a run fails in turn, and then the machine stops.
-use crate::compare::{first_other, lines_in};
-use crate::names::{CHOICES, LOG, TOPIC};
-use crate::script::{Came, Script};
-use crate::text::told;
-use crate::wrong::Wrong;
+use crate::compare::first_other;
+use crate::running::{Came, run_lines};
 use std::alloc::{AllocError, Global};
 use txn_base::{FileId, Limits};
 use txn_memdisk::{Choice, FaultAt, MemDisk, Op};
+use txn_story::{CHOICES, LOG, Script, TOPIC, Wrong, lines_in, told};
 
 /// A run that was told, and the disk on which it began.
 #[derive(Drop)]
@@ -23,13 +21,14 @@ pub struct Also {
     pub put: Vec<u8>,
 }
 
-/// What a look at the disk may put after a run: where the lines that were answered have been done, or also the line at which
-/// the call failed, of this number.
+/// What a look at the disk may see after a run in which this call failed: where the lines that were answered have been done, or
+/// also the line at which it failed, of this number.
 #[derive(Drop)]
 struct Allowed {
+    fault: FaultAt,
     line: usize,
-    without: Vec<u8>,
-    with: Vec<u8>,
+    without: Came,
+    with: Came,
 }
 
 /// The line of a run at which a call failed, counted from 0: whether the run goes on behind it, and whether it put a reply.
@@ -46,17 +45,48 @@ const OPS: [Op; 5] = [Op::Size, Op::Read, Op::WriteAt, Op::Resize, Op::Sync];
 pub fn sweep(alloc: Global, past: &Past, look: &Script, also: &[Also]) -> Result<u64, Wrong> {
     let mut disk = past.before.crash(Choice::New)?;
     let whole = past.run(alloc, &past.script.lines, &mut disk)?;
+    sweep_over(alloc, past, &whole, look, also, &disk)
+}
+
+/// Each call fails of a run that came out so, and left this disk.
+fn sweep_over(
+    alloc: Global,
+    past: &Past,
+    whole: &Came,
+    look: &Script,
+    also: &[Also],
+    disk: &MemDisk,
+) -> Result<u64, Wrong> {
+    each_is_answered(alloc, &past.script.lines, whole)?;
+    let files = files_of(disk)?;
+    fail_each(alloc, past, whole, look, also, &files)
+}
+
+/// Each line had a reply.
+fn each_is_answered(alloc: Global, lines: &[Vec<u8>], whole: &Came) -> Result<(), Wrong> {
+    let lines = lines.len();
     let replies = lines_in(alloc, &whole.put)?.len();
-    let lines = past.script.lines.len();
-    if replies != lines {
-        return Err(Wrong::Came {
-            what: String::from_str(alloc, "the replies of a run whose calls fail")?,
-            want: format!(in alloc; "{lines}")?,
-            came: format!(in alloc; "{replies}")?,
-        });
+    if replies == lines {
+        return Ok(());
     }
+    Err(Wrong::Came {
+        what: String::from_str(alloc, "the replies of a run whose calls fail")?,
+        want: format!(in alloc; "{lines}")?,
+        came: format!(in alloc; "{replies}")?,
+    })
+}
+
+/// Each call on these files fails. How many there were.
+fn fail_each(
+    alloc: Global,
+    past: &Past,
+    whole: &Came,
+    look: &Script,
+    also: &[Also],
+    files: &[FileId],
+) -> Result<u64, Wrong> {
     let mut count = 0u64;
-    for file in &files_of(&disk)? {
+    for file in files {
         for op in &OPS {
             for nth in 1..u64::MAX {
                 let fault = FaultAt {
@@ -64,7 +94,7 @@ pub fn sweep(alloc: Global, past: &Past, look: &Script, also: &[Also]) -> Result
                     op: *op,
                     nth,
                 };
-                if !fails_once(alloc, past, &whole, look, also, fault)? {
+                if !fails_once(alloc, past, whole, look, also, fault)? {
                     break;
                 }
                 count = count.saturating_add(1);
@@ -87,22 +117,32 @@ fn files_of(disk: &MemDisk) -> Result<Vec<FileId>, AllocError> {
 
 impl Past {
     /// Runs it once more, with these lines on this disk.
-    fn run(&self, alloc: Global, lines: &[Vec<u8>], disk: &mut MemDisk) -> Result<Came, Wrong> {
-        self.script.run(alloc, &self.limits, lines, disk)
+    pub fn run(&self, alloc: Global, lines: &[Vec<u8>], disk: &mut MemDisk) -> Result<Came, Wrong> {
+        run_lines(alloc, &self.script, &self.limits, lines, disk)
     }
 }
 
-/// What a look puts behind these lines, where no call fails.
+/// What a look sees behind these lines, where no call fails.
 pub fn seen_after(
     alloc: Global,
     past: &Past,
     look: &Script,
     lines: &[Vec<u8>],
-) -> Result<Vec<u8>, Wrong> {
+) -> Result<Came, Wrong> {
     let mut disk = past.before.crash(Choice::New)?;
-    let _ = past.run(alloc, lines, &mut disk)?;
-    let came = look.run(alloc, &past.limits, &look.lines, &mut disk)?;
-    came.put.to_vec(alloc).map_err(|_| Wrong::NoMemory)
+    seen_on(alloc, past, look, lines, &mut disk)
+}
+
+/// What a look sees behind these lines on this disk.
+fn seen_on(
+    alloc: Global,
+    past: &Past,
+    look: &Script,
+    lines: &[Vec<u8>],
+    disk: &mut MemDisk,
+) -> Result<Came, Wrong> {
+    let _ = past.run(alloc, lines, disk)?;
+    run_lines(alloc, look, &past.limits, &look.lines, disk)
 }
 
 /// One call fails. Whether the run came to it.
@@ -120,17 +160,42 @@ fn fails_once(
     if disk.failed_calls() == 0 {
         return Ok(false);
     }
-    let allowed = allowed_after(alloc, past, whole, look, &came)?;
-    for choice in &CHOICES {
-        let seen = seen_behind(alloc, past, look, &disk, *choice)?;
-        if seen.ending.as_str() != "0" || !allows(&allowed, also, &seen.put) {
-            return Err(seen_otherwise(alloc, fault, *choice, &allowed, &seen)?);
-        }
-    }
+    let allowed = allowed_after(alloc, past, whole, look, &came, fault)?;
+    crash_each(alloc, past, look, also, &disk, &allowed)?;
     Ok(true)
 }
 
-/// What a look puts behind a crash.
+/// The machine stops behind a run, and a look sees what it may.
+fn crash_each(
+    alloc: Global,
+    past: &Past,
+    look: &Script,
+    also: &[Also],
+    disk: &MemDisk,
+    allowed: &Allowed,
+) -> Result<(), Wrong> {
+    for choice in &CHOICES {
+        let seen = seen_behind(alloc, past, look, disk, *choice)?;
+        compare_look(alloc, allowed, also, *choice, &seen)?;
+    }
+    Ok(())
+}
+
+/// A look saw what it may.
+fn compare_look(
+    alloc: Global,
+    allowed: &Allowed,
+    also: &[Also],
+    choice: Choice,
+    seen: &Came,
+) -> Result<(), Wrong> {
+    if seen.ending.as_str() == "0" && allows(allowed, also, &seen.put) {
+        return Ok(());
+    }
+    Err(seen_otherwise(alloc, choice, allowed, seen)?)
+}
+
+/// What a look sees behind a crash.
 fn seen_behind(
     alloc: Global,
     past: &Past,
@@ -139,33 +204,32 @@ fn seen_behind(
     choice: Choice,
 ) -> Result<Came, Wrong> {
     let mut left = disk.crash(choice)?;
-    look.run(alloc, &past.limits, &look.lines, &mut left)
+    run_lines(alloc, look, &past.limits, &look.lines, &mut left)
 }
 
-/// A look put what it may not put.
+/// A look saw what it may not.
 fn seen_otherwise(
     alloc: Global,
-    fault: FaultAt,
     choice: Choice,
     allowed: &Allowed,
     seen: &Came,
 ) -> Result<Wrong, AllocError> {
-    let file = fault.file.part;
-    let op = fault.op;
-    let nth = fault.nth;
+    let file = allowed.fault.file.part;
+    let op = allowed.fault.op;
+    let nth = allowed.fault.nth;
     let ending = seen.ending.as_str();
     Ok(Wrong::Came {
         what: format!(in alloc;
             "fault part {file} {op:?} {nth}, crash {choice:?}, status {ending}"
         )?,
-        want: told(alloc, &allowed.without)?,
+        want: told(alloc, &allowed.without.put)?,
         came: told(alloc, &seen.put)?,
     })
 }
 
 fn allows(allowed: &Allowed, also: &[Also], put: &Vec<u8>) -> bool {
-    *put == allowed.without
-        || *put == allowed.with
+    *put == allowed.without.put
+        || *put == allowed.with.put
         || also
             .iter()
             .any(|one| one.line == allowed.line && *put == one.put)
@@ -178,11 +242,13 @@ fn allowed_after(
     whole: &Came,
     look: &Script,
     came: &Came,
+    fault: FaultAt,
 ) -> Result<Allowed, Wrong> {
     let Some(failure) = failure_in(alloc, whole, came)? else {
         return Err(told_otherwise(alloc, whole, came)?);
     };
     Ok(Allowed {
+        fault,
         line: failure.at.saturating_add(1),
         without: seen_with(alloc, past, look, failure, false)?,
         with: seen_with(alloc, past, look, failure, failure.has_replies)?,
@@ -219,14 +285,14 @@ fn told_otherwise(alloc: Global, whole: &Came, came: &Came) -> Result<Wrong, All
     })
 }
 
-/// What a look puts behind the lines that were done, where the failed one was done or wasn't.
+/// What a look sees behind the lines that were done, where the failed one was done or wasn't.
 fn seen_with(
     alloc: Global,
     past: &Past,
     look: &Script,
     failure: Failure,
     has_it: bool,
-) -> Result<Vec<u8>, Wrong> {
+) -> Result<Came, Wrong> {
     let lines = picked(
         alloc,
         &past.script.lines,

@@ -1,18 +1,15 @@
 //! The lines of a story, one after the other.
-use crate::bounds::lower;
-use crate::compare::{hex_of, same_bytes, same_lines, same_text};
-use crate::frames::file_bytes;
+use crate::compare::{same_bytes, same_lines, same_text};
 use crate::machine::Machine;
-use crate::names::{choices_of, file_of, op_of};
-use crate::page::Page;
-use crate::script::{Came, Script};
+use crate::running::Came;
 use crate::sweep::{Also, Past, seen_after, sweep};
-use crate::text::{first_word, number, put_text, words_of};
-use crate::wrong::Wrong;
 use std::alloc::{AllocError, Global};
 use std::mem;
-use txn_base::{FileId, Limits, Text};
-use txn_memdisk::FaultAt;
+use txn_base::{FileId, Limits};
+use txn_story::{
+    Page, Script, Wrong, choices_of, fault_of, file_bytes, file_line, file_of, first_word, hex_of,
+    lower, number, put_ended,
+};
 
 /// What the lines that come belong to.
 #[derive(Clone, Copy)]
@@ -79,11 +76,11 @@ impl Teller {
             "" | "#" => self.show(line),
             ">" => {
                 self.show(line)?;
-                self.ask(rest, "\n")
+                self.script.ask(rest, "\n")
             }
             ">-" => {
                 self.show(line)?;
-                self.ask(rest, "")
+                self.script.ask(rest, "")
             }
             "<" => self.expect(line, rest, "\n"),
             "<-" => self.expect(line, rest, ""),
@@ -129,13 +126,6 @@ impl Teller {
         Ok(())
     }
 
-    fn ask(&mut self, text: &str, end: &str) -> Result<(), Wrong> {
-        let mut line = Vec::new(self.alloc);
-        put_ended(self.alloc, text, end, &mut line)?;
-        self.script.lines.push(line)?;
-        Ok(())
-    }
-
     fn expect(&mut self, line: &str, text: &str, end: &str) -> Result<(), Wrong> {
         if !self.also.is_empty() {
             self.show(line)?;
@@ -151,14 +141,14 @@ impl Teller {
     /// Does what a line says that isn't within a run.
     fn direct(&mut self, word: &str, rest: &str) -> Result<(), Wrong> {
         match word {
-            "limits" => self.lower_limits(rest),
+            "limits" => lower(&mut self.limits, rest),
             "put" => self.put(rest),
             "see" => self.see(rest),
             "fault" => self.world.fail(fault_of(rest)?),
             "trap" => self.world.trap(fault_of(rest)?),
-            "clock" => self.set_clock(rest),
-            "source" => self.set_source(rest),
-            "sink" => self.set_sink(rest),
+            "clock" => self.script.set_clock(rest),
+            "source" => self.script.set_source(rest),
+            "sink" => self.script.set_sink(rest),
             "run" => self.begin(rest),
             "each" if rest == "fault" => self.look(),
             "crash" => self.crash(rest),
@@ -167,25 +157,12 @@ impl Teller {
         }
     }
 
-    fn set_clock(&mut self, rest: &str) -> Result<(), Wrong> {
-        self.script.moments = numbers_of(self.alloc, rest)?;
-        Ok(())
-    }
-
     fn crash(&mut self, rest: &str) -> Result<(), Wrong> {
         self.world.crash(&choices_of(self.alloc, rest)?)
     }
 
     fn crash_again(&mut self, rest: &str) -> Result<(), Wrong> {
         self.world.crash_again(&choices_of(self.alloc, rest)?)
-    }
-
-    fn lower_limits(&mut self, rest: &str) -> Result<(), Wrong> {
-        for part in rest.split_whitespace() {
-            let (name, value) = pair_of(part)?;
-            lower(&mut self.limits, name, number(value)?)?;
-        }
-        Ok(())
     }
 
     fn put(&mut self, rest: &str) -> Result<(), Wrong> {
@@ -212,35 +189,9 @@ impl Teller {
         Ok(())
     }
 
-    fn set_source(&mut self, rest: &str) -> Result<(), Wrong> {
-        for part in rest.split_whitespace() {
-            match pair_of(part)? {
-                ("pieces", count) => self.script.pieces = number(count)? as usize,
-                ("fails", nth) => self.script.failed_takes.push(number(nth)?)?,
-                _ => return Err(Wrong::Line("a source has pieces= and fails=")),
-            }
-        }
-        Ok(())
-    }
-
-    fn set_sink(&mut self, rest: &str) -> Result<(), Wrong> {
-        for part in rest.split_whitespace() {
-            match pair_of(part)? {
-                ("takes", count) => self.script.takes = number(count)? as usize,
-                ("fails", nth) => self.script.failed_puts.push(number(nth)?)?,
-                _ => return Err(Wrong::Line("a sink has takes= and fails=")),
-            }
-        }
-        Ok(())
-    }
-
     /// A run with these words is asked for.
     fn begin(&mut self, rest: &str) -> Result<(), Wrong> {
-        for word in words_of(self.alloc, rest)? {
-            self.script
-                .words
-                .push(told_word(self.alloc, word.as_str())?)?;
-        }
+        self.script.set_words(rest)?;
         self.asked = Asked::Run;
         self.ending = String::from_str(self.alloc, "0")?;
         Ok(())
@@ -254,9 +205,7 @@ impl Teller {
         let Some(past) = &self.past else {
             return Err(Wrong::Line("there was no run before"));
         };
-        for word in &past.script.words {
-            self.script.words.push(word.clone()?)?;
-        }
+        self.script.copy_words(&past.script.words)?;
         self.asked = Asked::EachFault;
         self.ending = String::from_str(self.alloc, "0")?;
         Ok(())
@@ -287,23 +236,23 @@ impl Teller {
     fn finish_run(&mut self) -> Result<(), Wrong> {
         self.asked = Asked::Nothing;
         let before = self.world.copy()?;
-        let script = mem::replace(&mut self.script, Script::new(self.alloc));
-        self.world.begin();
-        self.run_on_each(&script)?;
-        self.want.clear();
-        self.why.clear();
-        self.past = Some(Past {
-            script,
+        let past = Past {
+            script: mem::replace(&mut self.script, Script::new(self.alloc)),
             limits: self.limits,
             before,
-        });
-        Ok(())
+        };
+        self.world.begin();
+        let ran = self.run_on_each(&past);
+        self.want.clear();
+        self.why.clear();
+        self.past = Some(past);
+        ran
     }
 
     /// Runs it on each of the disks, and compares, or shows what came on the first.
-    fn run_on_each(&mut self, script: &Script) -> Result<(), Wrong> {
+    fn run_on_each(&mut self, past: &Past) -> Result<(), Wrong> {
         for i in 0..self.world.disks.len() {
-            let came = self.run_on(i, script)?;
+            let came = self.run_on(i, past)?;
             self.see_run(i, &came)?;
         }
         Ok(())
@@ -323,11 +272,11 @@ impl Teller {
     }
 
     /// Runs it on one of the disks.
-    fn run_on(&mut self, i: usize, script: &Script) -> Result<Came, Wrong> {
-        let Some(disk) = self.world.disks.get_mut(i) else {
-            return Err(Wrong::Line("there is no disk"));
-        };
-        script.run(self.alloc, &self.limits, &script.lines, disk)
+    fn run_on(&mut self, i: usize, past: &Past) -> Result<Came, Wrong> {
+        match self.world.disks.get_mut(i) {
+            Some(disk) => past.run(self.alloc, &past.script.lines, disk),
+            None => Err(Wrong::Line("there is no disk")),
+        }
     }
 
     fn finish_look(&mut self) -> Result<(), Wrong> {
@@ -344,17 +293,14 @@ impl Teller {
             return Err(Wrong::Line("there was no run before"));
         };
         let seen = seen_after(self.alloc, past, look, &past.script.lines)?;
-        if let Some(page) = &mut self.page {
-            page.fill(&seen, "0", "")?;
-            return Ok(());
+        match &mut self.page {
+            Some(page) => page.fill(&seen.put, "0", ""),
+            None => {
+                let count = count_failed(self.alloc, past, look, &self.want, &self.also, &seen)?;
+                self.failed = self.failed.saturating_add(count);
+                Ok(())
+            }
         }
-        same_lines(self.alloc, &self.want, &seen)?;
-        let count = sweep(self.alloc, past, look, &self.also)?;
-        if count == 0 {
-            return Err(Wrong::Line("no call of the run can fail"));
-        }
-        self.failed = self.failed.saturating_add(count);
-        Ok(())
     }
 
     fn compare(&self, came: &Came) -> Result<(), Wrong> {
@@ -367,6 +313,22 @@ impl Teller {
             self.why.as_str(),
             came.why.as_str(),
         )
+    }
+}
+
+/// Compares what a look sees where no call fails, and has each call fail in turn. How many there were.
+fn count_failed(
+    alloc: Global,
+    past: &Past,
+    look: &Script,
+    want: &[u8],
+    also: &[Also],
+    seen: &Came,
+) -> Result<u64, Wrong> {
+    same_lines(alloc, want, &seen.put)?;
+    match sweep(alloc, past, look, also)? {
+        0 => Err(Wrong::Line("no call of the run can fail")),
+        count => Ok(count),
     }
 }
 
@@ -387,52 +349,4 @@ fn show_file(
         }
     }
     Ok(())
-}
-
-/// The text that a word stands for.
-fn told_word(alloc: Global, word: &str) -> Result<Text, Wrong> {
-    let mut bytes = Vec::new(alloc);
-    put_text(alloc, word, &mut bytes)?;
-    match str::from_utf8(&bytes) {
-        Ok(text) => Ok(Text::from_str(alloc, text)?),
-        Err(_) => Err(Wrong::Line("a word is no text")),
-    }
-}
-
-/// Puts the bytes that a text stands for, and the end of its line.
-fn put_ended(alloc: Global, text: &str, end: &str, out: &mut Vec<u8>) -> Result<(), Wrong> {
-    put_text(alloc, text, out)?;
-    out.extend_from_slice(end.as_bytes())?;
-    Ok(())
-}
-
-/// A call on a file, by its number among the calls of its kind.
-fn fault_of(rest: &str) -> Result<FaultAt, Wrong> {
-    let (file, call) = first_word(rest);
-    let (op, nth) = first_word(call);
-    Ok(FaultAt {
-        file: file_of(file)?,
-        op: op_of(op)?,
-        nth: number(nth)?,
-    })
-}
-
-/// The numbers of a line.
-fn numbers_of(alloc: Global, rest: &str) -> Result<Vec<u64>, Wrong> {
-    let mut numbers = Vec::new(alloc);
-    for word in rest.split_whitespace() {
-        numbers.push(number(word)?)?;
-    }
-    Ok(numbers)
-}
-
-/// What stands before the = of a word, and behind it.
-fn pair_of(word: &str) -> Result<(&str, &str), Wrong> {
-    word.split_once('=').ok_or(Wrong::Line("no = in a word"))
-}
-
-/// What stands before the = of a line, and behind it.
-fn file_line(rest: &str) -> Result<(&str, &str), Wrong> {
-    rest.split_once(" =")
-        .ok_or(Wrong::Line("no = behind the file"))
 }

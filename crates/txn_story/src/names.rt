@@ -1,9 +1,9 @@
 //! The names of files, calls and crashes.
-use crate::text::{hex_byte, number};
+use crate::text::{first_word, hex_byte, number};
 use crate::wrong::Wrong;
 use std::alloc::Global;
 use txn_base::FileId;
-use txn_memdisk::{Choice, Op};
+use txn_memdisk::{Choice, FaultAt, Op};
 
 /// The log of the coordinator.
 pub const LOG: FileId = FileId { part: 0, row: 2 };
@@ -33,8 +33,19 @@ pub fn small(word: &str) -> Result<u32, Wrong> {
     u32::try_from(number(word)?).map_err(|_| Wrong::Line("a number is too great"))
 }
 
+/// A call on a file, by its number among the calls of its kind.
+pub fn fault_of(rest: &str) -> Result<FaultAt, Wrong> {
+    let (file, call) = first_word(rest);
+    let (op, nth) = first_word(call);
+    Ok(FaultAt {
+        file: file_of(file)?,
+        op: op_of(op)?,
+        nth: number(nth)?,
+    })
+}
+
 /// A kind of call.
-pub fn op_of(word: &str) -> Result<Op, Wrong> {
+fn op_of(word: &str) -> Result<Op, Wrong> {
     match word {
         "size" => Ok(Op::Size),
         "read" => Ok(Op::Read),

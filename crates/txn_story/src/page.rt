@@ -1,6 +1,5 @@
 //! A story as it is shown: with what came in the place of what it says.
-use crate::compare::lines_in;
-use crate::text::{first_word, put_text, told};
+use crate::text::{first_word, lines_in, put_text, told};
 use crate::wrong::Wrong;
 use std::alloc::{AllocError, Global};
 

@@ -1,6 +1,4 @@
 //! A story as its file has it: its name, its lines, and the cases for which it is told.
-use crate::teller::Teller;
-use crate::wrong::Wrong;
 use std::alloc::{AllocError, Global};
 
 /// A story as its file has it.
@@ -8,32 +6,14 @@ use std::alloc::{AllocError, Global};
 pub struct Story {
     alloc: Global,
     /// Its first line.
-    head: String,
+    pub head: String,
     /// It says something wrong, and has to be found wrong.
     pub is_wrong: bool,
     /// The number of its first line in the file, from 1.
-    first: usize,
-    lines: Vec<String>,
+    pub first: usize,
+    pub lines: Vec<String>,
     /// What `$1`, `$2` and so on stand for, with ` ; ` between, each time that it is told.
     cases: Vec<String>,
-}
-
-/// How a story was told for one of its cases.
-#[derive(Drop)]
-pub struct Told {
-    /// Its first line.
-    pub head: String,
-    /// The number of the last line that was told.
-    pub at: usize,
-    pub teller: Teller,
-    pub end: Result<(), Wrong>,
-}
-
-impl Told {
-    /// The story's name.
-    pub fn name(&self) -> &str {
-        name_of(self.head.as_str())
-    }
 }
 
 /// A line that begins a story.
@@ -42,7 +22,7 @@ pub fn is_head(line: &str) -> bool {
 }
 
 /// The name in the first line of a story.
-fn name_of(head: &str) -> &str {
+pub fn name_of(head: &str) -> &str {
     match head.split_once("story ") {
         Some((_, name)) => name,
         None => head,
@@ -76,39 +56,23 @@ impl Story {
         self.cases.len().max(1)
     }
 
-    /// Tells it for one of its cases.
-    pub fn tell(&self, i: usize, is_shown: bool) -> Result<Told, AllocError> {
-        let case = self.cases.get(i).map_or("", |case| case.as_str());
-        let head = filled(self.alloc, self.head.as_str(), case)?;
-        let mut teller = Teller::new(self.alloc, is_shown)?;
-        let mut at = self.first;
-        let end = self.tell_lines(case, &mut at, &mut teller);
-        Ok(Told {
-            head,
-            at,
-            teller,
-            end,
-        })
-    }
-
-    /// Tells its lines for a case, and counts them.
-    fn tell_lines(&self, case: &str, at: &mut usize, teller: &mut Teller) -> Result<(), Wrong> {
-        for line in &self.lines {
-            *at = at.saturating_add(1);
-            let text = filled(self.alloc, line.as_str(), case)?;
-            teller.tell(text.as_str())?;
-        }
-        teller.end()
+    /// What stands in one of its cases.
+    pub fn case(&self, i: usize) -> &str {
+        self.cases.get(i).map_or("", |case| case.as_str())
     }
 }
 
 /// A line with what stands in a case in the places of `$1`, `$2` and so on.
-fn filled(alloc: Global, line: &str, case: &str) -> Result<String, AllocError> {
+pub fn filled(alloc: Global, line: &str, case: &str) -> Result<String, AllocError> {
     let mut text = String::from_str(alloc, line)?;
     for (i, cell) in case.split(" ; ").enumerate() {
-        let n = i.saturating_add(1);
-        let sign = format!(in alloc; "${n}")?;
-        text = text.as_str().replace(alloc, sign.as_str(), cell)?;
+        text = with_cell(alloc, text.as_str(), i.saturating_add(1), cell)?;
     }
     Ok(text)
+}
+
+/// A line with this text in the places of the sign of this number.
+fn with_cell(alloc: Global, line: &str, n: usize, cell: &str) -> Result<String, AllocError> {
+    let sign = format!(in alloc; "${n}")?;
+    line.replace(alloc, sign.as_str(), cell)
 }
