@@ -1,10 +1,9 @@
 -- Calls that only read a disk, in a row.
 use Rattle.std.proofs.Common.{ℕ, refl, ◌∙◌, arith}
 use Rattle.txn_base.specs.declared.disk.Disk.{Ghosts}
-use Rattle.txn_base.specs.Moves.{After}
 use Rattle.txn_base.specs.Disk.{Same, CountsFaults}
 use Rattle.txn_base.proofs.Laws.{started, goes_on}
-use Rattle.txn_buffer.specs.Reads.{OnlyReads}
+use Rattle.txn_replay.specs.Reading.{OnlyReads}
 
 pub counts_none : (part count : ℕ) (parts : ℕ → ℕ) → CountsFaults part count count parts parts ⊥
 counts_none part count parts = record {

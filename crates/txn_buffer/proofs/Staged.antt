@@ -1,6 +1,6 @@
 -- Records behind the front, tested one by one.
 use Rattle.std.proofs.Common.{◌≡◌, ℕ, suc, ◌+◌, ◌<◌, Bool, true, false, not, eq-eqb, ◌==◌, ◌&&◌, if◌then◌else◌, List, [], ◌∷◌, ◌++◌, length, get_or, take, drop, drop-cons, Some, None, refl, sym, ap, ◌∙◌, subst, append_assoc}
-use Rattle.std.specs.Prelude.{Result, Err, Option, is_none, is_some}
+use Rattle.std.specs.Prelude.{Option, is_none, is_some}
 use Rattle.std.specs.Option.{option_or}
 use Rattle.std.proofs.lemmas.List.{map-append, take_more, take-append-drop}
 use Rattle.txn_base.specs.declared.txn.TxnId.{TxnId}
@@ -14,7 +14,7 @@ use Rattle.txn_model.specs.Topic.{marks, marker_of, part_allows, TopicLawful}
 use Rattle.txn_model.proofs.Laws.Lists.{first_of-append, all_follow-append}
 use Rattle.txn_model.proofs.Laws.Tests.{and_l, and_r}
 use Rattle.txn_records.specs.Topics.{marker_entry}
-use Rattle.txn_buffer.proofs.Tables.{no_true, skeletons-push}
+use Rattle.txn_buffer.proofs.Tables.{no_true}
 
 marker-append : (xs ys : List TopicEntry) (x : TxnId) → marker_of (topic_skeletons (xs ++ ys)) x ≡ option_or (marker_of (topic_skeletons xs) x) (marker_of (topic_skeletons ys) x)
 marker-append xs ys x = ap (λ l. marker_of l x) (map-append topic_skeleton xs ys) ∙ first_of-append (marks x) (topic_skeletons xs) (topic_skeletons ys)
@@ -68,11 +68,6 @@ allowed_at xs ys e lawful =
     sym (ap (all_follow part_allows []) (map-append topic_skeleton xs (e ∷ ys)) ∙ all_follow-append part_allows [] sk (topic_skeleton e ∷ topic_skeletons ys)) ∙ lawful in
     and_l (part_allows sk (topic_skeleton e)) (all_follow part_allows (sk ++ topic_skeleton e ∷ []) (topic_skeletons ys)) (and_r (all_follow part_allows [] sk) (part_allows sk (topic_skeleton e) && all_follow part_allows (sk ++ topic_skeleton e ∷ []) (topic_skeletons ys)) both)
 
--- one more
-pub lawful_more : (xs : List TopicEntry) (e : TopicEntry) → TopicLawful xs → part_allows (topic_skeletons xs) (topic_skeleton e) ≡ true → TopicLawful (xs ++ e ∷ [])
-lawful_more xs e lawful allowed =
-    ap (all_follow part_allows []) (skeletons-push xs e) ∙ all_follow-append part_allows [] (topic_skeletons xs) (topic_skeleton e ∷ []) ∙ ap (λ b. b && (part_allows (topic_skeletons xs) (topic_skeleton e) && true)) lawful ∙ ap (λ b. b && true) allowed
-
 -- each of the entries behind is allowed after those before it
 pub allowed_in_order : (front so_far added : List TopicEntry) (i : ℕ) (e : TopicEntry) → e ≡ get_or added i e → i < length added → so_far ≡ front ++ take i added → TopicLawful (front ++ added)
     → part_allows (topic_skeletons so_far) (topic_skeleton e) ≡ true
@@ -82,10 +77,6 @@ allowed_in_order front so_far added i e is within so lawful =
     let whole : front ++ added ≡ so_far ++ e ∷ drop (suc i) added =
     ap (λ (l : List TopicEntry). front ++ l) parted ∙ sym (append_assoc front (take i added) (e ∷ drop (suc i) added)) ∙ ap (λ (l : List TopicEntry). l ++ e ∷ drop (suc i) added) (sym so) in
     allowed_at so_far (drop (suc i) added) e (subst TopicLawful whole lawful)
-
--- the error that is handed on is the one that was met
-pub same_error : {T U E : Type 0} (r : Result U E) (x y z : E) → r ≡ Err x → x ≡ y → r ≡ Err z → ◌≡◌ {A = Result T E} (Err y) (Err z)
-same_error r x y z handed is told = let e : y ≡ z = cc in ap (λ w. Err w) e
 
 -- ---- A marker behind the front.
 

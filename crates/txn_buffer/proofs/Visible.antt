@@ -11,7 +11,7 @@ use Rattle.txn_base.specs.declared.entry.TopicEntry.{TopicEntry}
 use Rattle.txn_base.specs.declared.entry.TopicEntry.TheVariants as topic
 use Rattle.txn_base.specs.declared.limits.Limits.{Limits}
 use Rattle.txn_model.specs.Skeletons.{topic_skeleton, topic_skeletons}
-use Rattle.txn_model.specs.Topic.{marker_of, is_undecided, limit_from, limit_of, shown_where, shows, visible_of, read_slice, cut_short, first_and_fitting}
+use Rattle.txn_model.specs.Topic.{marker_of, is_undecided, limit_from, limit_of, shown_where, shows, read_slice, cut_short, first_and_fitting}
 use Rattle.txn_model.specs.Entries.{message_at}
 use Rattle.txn_model.proofs.Laws.Topics.{visible_split, visible_from, visible_fused}
 use Rattle.txn_buffer.specs.Reading.{rest_of, visible_later}

@@ -3,7 +3,7 @@ pub mod Ending
 pub mod Front
 pub mod Mending
 pub mod Reading
-pub mod Reads
+pub mod ReplayLaws
 pub mod Record
 pub mod Topic
 pub mod View

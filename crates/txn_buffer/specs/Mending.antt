@@ -2,7 +2,7 @@
 use Rattle.std.specs.Prelude.{◌≡◌, ◌⊎◌, ℕ, ◌+◌, ◌-◌, ◌<◌, ◌≤◌, ◌==◌, min, false, List, [], ◌++◌, length, take, All, slice_index_or}
 use Rattle.txn_base.specs.declared.entry.TopicEntry.{TopicEntry}
 use Rattle.txn_base.specs.declared.part.Progress.{Progress}
-use Rattle.txn_base.specs.Content.{LedgerContent, IsInFlight, settled, kept, dropped}
+use Rattle.txn_base.specs.Content.{settled}
 use Rattle.txn_base.specs.Decoded.{topic_entry_of, topic_entries}
 use Rattle.txn_base.specs.Frames.{Record, Batch, records}
 use Rattle.txn_model.specs.Skeletons.{topic_skeleton, topic_skeletons}
@@ -10,9 +10,8 @@ use Rattle.txn_model.specs.Topic.{part_allows, TopicLawful}
 use Rattle.txn_buffer.specs.Record.{IsInGrammar, IsOutside}
 use Rattle.txn_buffer.specs.View.{TopicView, topic_total}
 
--- The content is as it was, or what was in flight was settled.
-abbrev pub MayHaveSettled : LedgerContent → LedgerContent → Type 0
-MayHaveSettled before after = (after ≡ before) ⊎ (IsInFlight before.standing × ((after ≡ kept before) ⊎ (after ≡ dropped before)))
+-- What was in flight was settled, or nothing was.
+pub use Rattle.txn_replay.specs.Settling.{MayHaveSettled}
 
 -- With a list of so many records, a step goes over as many as the bound, or over all that are left.
 abbrev pub step_of : TopicView → ℕ → ℕ
@@ -53,12 +52,3 @@ pub record IsFirstBadRecord (batches : List Batch) (place : ℕ) : Type 0 where
   pub bad : IsBad (take place (topic_entries batches)) (slice_index_or (records batches) place [])
   pub lawful : TopicLawful (take place (topic_entries batches))
   pub grammar : All IsInGrammar (take place (records batches))
-
--- The topic, with this front.
-abbrev pub with_front : TopicView → List TopicEntry → TopicView
-with_front v front = record { content = v.content; front = front; part = v.part; whole = v.whole; reserved = v.reserved; limits = v.limits }
-
--- The entry of the record at this place, which is in the grammar.
-pub record IsEntryAt (batches : List Batch) (place : ℕ) (entry : TopicEntry) : Type 0 where
-  pub entry_is : entry ≡ topic_entry_of (slice_index_or (records batches) place [])
-  pub grammar : IsInGrammar (slice_index_or (records batches) place [])

@@ -122,7 +122,7 @@ impl Front {
     }
 
     /// Adds entries, each allowed after those before it.
-    pub fn add_all(&mut self, added: &[TopicRecord])
+    pub fn add_each(&mut self, added: &[TopicRecord])
         requires count { length self.old.entries + length added.now < 2 ^ 64 }
         requires lawful { TopicLawful (self.old.entries ++ added.now) }
         requires opens { length added.now ≤ self.old.opens }

@@ -5,6 +5,7 @@ mod batch;
 mod error;
 mod front;
 mod record;
+mod replay;
 mod slice;
 mod topic;
 

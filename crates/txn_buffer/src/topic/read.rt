@@ -10,7 +10,7 @@ ghost use Rattle.txn_model.specs.Entries as model;
 ghost use Rattle.txn_model.specs.Skeletons.{topic_skeleton, topic_skeletons};
 ghost use Rattle.txn_model.specs.Topic.{limit_of, read_slice, shows};
 ghost use Rattle.txn_records.specs.Topics.{IsMessage};
-ghost use Rattle.txn_buffer.specs.Reads.{OnlyReads};
+ghost use Rattle.txn_replay.specs.Reading.{OnlyReads};
 ghost use Rattle.txn_buffer.specs.Reading.{ReadsUpTo, is_shown_after};
 ghost use Rattle.txn_buffer.specs.Record.{IsInGrammar, IsOutside};
 ghost use Rattle.txn_buffer.specs.View.{IsFrontOf, topic_total};

@@ -1,55 +1,62 @@
-use Rattle.std.proofs.Common.{◌≡◌, ◌≤◌, ◌++◌, List, length, ap, ◌∙◌, subst, arith}
+use Rattle.std.proofs.Common.{◌≡◌, ◌+◌, ◌<◌, ◌≤◌, ◌++◌, List, Err, length, take, drop, ap, sym, ◌∙◌, subst, arith, rules, refl, length-take}
+use Rattle.std.proofs.lemmas.List.{take-append-drop, length-drop}
 use Rattle.std.proofs.lemmas.Result.{err_from_is_err_and}
 use Rattle.txn_base.specs.declared.entry.TopicEntry.{TopicEntry}
 use Rattle.txn_base.specs.declared.part.MendError.TheVariants.{Damaged}
-use Rattle.txn_base.proofs.Laws.{begins_with}
-use Rattle.txn_buffer.specs.Mending.{MayHaveSettled}
-use Rattle.txn_buffer.specs.View.{TopicView, IsFrontOf, topic_total}
-use Rattle.txn_buffer.proofs.Staged.{same_error}
-use Rattle.txn_buffer.proofs.Tied.{tied_same, tied_settled, with_content}
+use Rattle.txn_base.specs.Frames.{records}
+use Rattle.txn_buffer.specs.Mending.{step_of}
+use Rattle.txn_buffer.specs.View.{TopicView, IsFrontOf}
+use Rattle.txn_buffer.proofs.Tied.{tied_settled}
 use Rattle.txn_buffer.proofs.topic.Topic.mend_step.Goals as goal
-use Rattle.txn_buffer.proofs.topic.Topic.mend_step.Given.{Over}
-use Rattle.txn_buffer.proofs.topic.Topic.mend_step.Goals.{After-settle}
 
--- the front is tied after the list was settled
-tied_now : (g : Over) (c : After-settle g) → IsFrontOf c.args.self.now → IsFrontOf (with_content c.args.self.now (g.R.RecordLog.content c.settle.new.log))
-tied_now g c tied =
-    let within : length c.args.self.now.front ≤ topic_total c.args.self.now = subst (λ (v : TopicView). length v.front ≤ topic_total v) c.self.view_is c.self.invariant.within in
-    tied_settled c.args.self.now (g.R.RecordLog.content c.settle.new.log) within (subst (λ (v : TopicView). MayHaveSettled v.content (g.R.RecordLog.content c.settle.new.log)) c.self.view_is c.settle.ensures.content) tied
+pub returns-in_err-replay_step-clause-damaged : goal.returns-in_err-replay_step-clause-damaged
+returns-in_err-replay_step-clause-damaged g c = λ place is.
+    let p = err_from_is_err_and c.from_residual.result c.from_residual.ensures.1 in
+    let q = c.in_err-replay_step.was in
+    let told_so : c.replay_step.result ≡ Err (Damaged place) = cc (p.1, p.2, q) in
+    let bad = c.replay_step.ensures.damaged place told_so in
+    let total = length (records (g.R.RecordLog.content c.settle_log.new.log).batches) in
+    record {
+      from = subst (λ (v : TopicView). length v.front ≤ place) c.self.view_is (omega (arith, bad.from_on, c.len-at.ensures.value));
+      to = subst (λ (v : TopicView). place < length v.front + step_of v total) c.self.view_is (omega (arith, bad.from_on, bad.before_end, c.len-at.ensures.value));
+    }
 
-pub returns-in_err-staged-clause-first_bad : goal.returns-in_err-staged-clause-first_bad
-returns-in_err-staged-clause-first_bad g c = λ place same tells tied.
-    let before = tied_now g (goal.at.returns-in_err-staged-clause-first_bad g c).After-settle tied in
-    let p = err_from_is_err_and c.from_residual-in_err-staged.result c.from_residual-in_err-staged.ensures.1 in
-    c.in_err-staged.ensures.first_bad place (same_error c.from_residual-in_err-staged.result p.0 c.in_err-staged.field-0.0 (Damaged place) p.1 p.2 same) tells
-    (tied_same (with_content c.args.self.now (g.R.RecordLog.content c.settle.new.log)) _ (ap (λ (v : TopicView). v.front) c.self.view_is) (λ i. g.R.RecordLog.content c.settle.new.log) before)
+pub returns-in_err-replay_step-clause-first_bad : goal.returns-in_err-replay_step-clause-first_bad
+returns-in_err-replay_step-clause-first_bad g c = λ place is told tied.
+    let p = err_from_is_err_and c.from_residual.result c.from_residual.ensures.1 in
+    let q = c.in_err-replay_step.was in
+    let told_so : c.replay_step.result ≡ Err (Damaged place) = cc (p.1, p.2, q) in
+    let was = tied_settled _ (g.R.RecordLog.content c.settle_log.new.log) c.self.invariant.within c.settle_log.ensures.content (subst (λ (v : TopicView). IsFrontOf v) (sym c.self.view_is) tied) in
+    let bad = (c.replay_step.ensures.damaged place told_so).first_bad told (record { entries = was.0; in_grammar = was.1 }) in
+    record { bad = bad.bad; lawful = bad.before; grammar = bad.in_grammar }
 
-pub returns-in_err-staged-clause-tied : goal.returns-in_err-staged-clause-tied
-returns-in_err-staged-clause-tied g c = λ tells tied.
-    tied_same (with_content c.args.self.now (g.R.RecordLog.content c.settle.new.log)) _ (ap (λ (v : TopicView). v.front) c.self.view_is) (λ i. g.R.RecordLog.content c.settle.new.log)
-    (tied_now g (goal.at.returns-in_err-staged-clause-tied g c).After-settle tied)
+pub returns-in_err-replay_step-clause-tied : goal.returns-in_err-replay_step-clause-tied
+returns-in_err-replay_step-clause-tied g c = λ told tied.
+    let was = tied_settled _ (g.R.RecordLog.content c.settle_log.new.log) c.self.invariant.within c.settle_log.ensures.content (subst (λ (v : TopicView). IsFrontOf v) (sym c.self.view_is) tied) in
+    let now = c.replay_step.ensures.taken.taken told (record { entries = was.0; in_grammar = was.1 }) in
+    record { entries = now.entries; grammar = now.in_grammar }
 
-pub returns-in_err-reserve-clause-tied : goal.returns-in_err-reserve-clause-tied
-returns-in_err-reserve-clause-tied g c = λ tells tied.
-    tied_same (with_content c.args.self.now (g.R.RecordLog.content c.settle.new.log)) _ (c.reserve.ensures.entries ∙ ap (λ (v : TopicView). v.front) c.self.view_is) (λ i. g.R.RecordLog.content c.settle.new.log)
-    (tied_now g (goal.at.returns-in_err-reserve-clause-tied g c).After-settle tied)
-
-pub add_all-requires-clause-count : goal.add_all-requires-clause-count
-add_all-requires-clause-count g c =
-    let added : length c.deref.result.now ≡ length c.in_ok-staged.staged.items = ap length c.deref.ensures.value in
-    omega (arith, ap length c.reserve.ensures.entries, added, c.in_ok-staged.ensures.count, c.in_ok-staged.ensures.few, c.in_ok-staged.ensures.fits)
+pub returns-clause-ok : goal.returns-clause-ok
+returns-clause-ok g c =
+    let front = c.self.inside.front.entries in let after = c.replay_step.new.state.entries in let n = length front in
+    let total = length (records (g.R.RecordLog.content c.settle_log.new.log).batches) in
+    let before : front ≡ take n after = c.replay_step.ensures.taken.extends in
+    record {
+      settled_now = search rules;
+      more = drop n after;
+      front = subst (λ (v : TopicView). after ≡ v.front ++ drop n after) c.self.view_is (sym (ap (λ (l : List TopicEntry). l ++ drop n after) before ∙ take-append-drop n after));
+      count = subst (λ (v : TopicView). length (drop n after) ≡ step_of v total) c.self.view_is
+          (omega (arith, length-drop n after, ap length before, length-take n after, c.in_ok-replay_step.ensures.grown, c.replay_step.ensures.at, c.len-at.ensures.value));
+      at = c.replay_step.ensures.at;
+      total = c.len-total-2.ensures;
+      whole = refl;
+      part = ap (λ (v : TopicView). v.part) c.self.view_is;
+      reserved = ap (λ (v : TopicView). v.reserved) c.self.view_is;
+      limits = ap (λ (v : TopicView). v.limits) c.self.view_is;
+    }
 
 pub returns-clause-tied : goal.returns-clause-tied
-returns-clause-tied g c = λ tells tied.
-    let content = g.R.RecordLog.content c.settle.new.log in
-    let before = tied_same (with_content c.args.self.now content) _ (ap (λ (v : TopicView). v.front) c.self.view_is) (λ i. content) (tied_now g (goal.at.returns-clause-tied g c).After-settle tied) in
-    tied_same _ _
-    (c.add_all.ensures ∙ ap (λ (l : List TopicEntry). c.reserve.new.front.entries ++ l) c.deref.ensures.value ∙ ap (λ (l : List TopicEntry). l ++ c.in_ok-staged.staged.items) c.reserve.ensures.entries) (λ i. content)
-    (c.in_ok-staged.ensures.tied tells before)
-
-pub read_step-requires : goal.read_step-requires
-read_step-requires g c = record {
-  reads = λ told.
-      let on = g.R.RecordLog in
-      begins_with on.stands on.exactly on.begins g.met.R.RecordLog.stands_begins (g.D.Disk.image c.settle.new.disk) (on.content c.settle.new.log) c.settle.ensures.backed _ (g.met.D.Disk.seen_is_image _ told);
-}
+returns-clause-tied g c = λ told tied.
+    let was = tied_settled _ (g.R.RecordLog.content c.settle_log.new.log) c.self.invariant.within c.settle_log.ensures.content (subst (λ (v : TopicView). IsFrontOf v) (sym c.self.view_is) tied) in
+    let now = c.replay_step.ensures.taken.taken told (record { entries = was.0; in_grammar = was.1 }) in
+    record { entries = now.entries; grammar = now.in_grammar }

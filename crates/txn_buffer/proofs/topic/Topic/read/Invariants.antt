@@ -1,5 +1,5 @@
 use Rattle.std.proofs.Common.{◌≡◌, ◌≤◌, ◌+◌, ◌-◌, max, []}
-use Rattle.txn_buffer.specs.Reads.{OnlyReads}
+use Rattle.txn_replay.specs.Reading.{OnlyReads}
 use Rattle.txn_buffer.specs.View.{IsFrontOf}
 use Rattle.txn_buffer.proofs.SoFar.{IsSoFar}
 use Rattle.txn_buffer.proofs.topic.Topic.read.Given as goal

@@ -3,7 +3,7 @@ use Rattle.std.specs.Prelude.{is_some}
 use Rattle.txn_base.specs.declared.core_entry.CoreEntry.{CoreEntry}
 use Rattle.txn_model.specs.Topic.{marks}
 use Rattle.txn_buffer.proofs.Staged.{none_yet, found_here}
-use Rattle.txn_buffer.proofs.topic.mend.has_marker.Goals as goal
+use Rattle.txn_buffer.proofs.replay.has_marker.Goals as goal
 
 pub returns-then-marks : goal.returns-then-marks
 returns-then-marks c =

@@ -1,5 +1,5 @@
 use Rattle.txn_buffer.proofs.Staged.{allowed_in_order}
-use Rattle.txn_buffer.proofs.front.Front.add_all.Goals as goal
+use Rattle.txn_buffer.proofs.front.Front.add_each.Goals as goal
 
 pub add-requires-clause-allowed : goal.add-requires-clause-allowed
 add-requires-clause-allowed c =

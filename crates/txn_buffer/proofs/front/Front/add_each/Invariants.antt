@@ -1,5 +1,5 @@
 use Rattle.std.proofs.Common.{◌≡◌, ◌≤◌, ◌+◌, ◌++◌, take, length}
-use Rattle.txn_buffer.proofs.front.Front.add_all.Given as goal
+use Rattle.txn_buffer.proofs.front.Front.add_each.Given as goal
 
 abbrev pub invariant-loop-one : goal.invariant-loop-one
 invariant-loop-one l =
