@@ -1,5 +1,5 @@
 -- The rule as sentences, and which status lies in the window.
-use Rattle.std.proofs.Common.{◌≡◌, ℕ, zero, suc, ◌+◌, ◌<◌, ◌≤◌, arith, ◌==◌, Bool, true, false, ◌&&◌, if◌then◌else◌, List, [], ◌∷◌, length, get_or, set, replicate, Some, None, refl, sym, ap, ◌∙◌, subst}
+use Rattle.std.proofs.Common.{◌≡◌, ◌⊎◌, inl, inr, ℕ, zero, suc, ◌+◌, ◌<◌, ◌≤◌, arith, ◌==◌, Bool, true, false, ◌&&◌, if◌then◌else◌, List, [], ◌∷◌, length, get_or, set, replicate, Some, None, refl, sym, ap, ◌∙◌, subst}
 use Rattle.std.specs.Prelude.{Contains, slice_index, unwrap_or, nat_le, nat_lt}
 use Rattle.std.specs.Int.{bit_at}
 use Rattle.std.specs.List.{list_any, list_all}
@@ -30,7 +30,7 @@ use Rattle.txn_board.specs.declared.words.Word.{Word}
 use Rattle.txn_board.specs.declared.words.Word.TheVariants.{Registered, Decided, Done}
 use Rattle.txn_board.specs.Words.{window, IsIn, is_in, word_at, as_bit, is_bit_set, tells, has_closing}
 use Rattle.txn_board.specs.Rows.{parts_in, list_in, low_in, AreSeatRows, with_row_by, settle_view, drop_view, start_view, loaded}
-use Rattle.txn_board.specs.Rule.{CanOpenBoard, HasSeat, Holds, StepsTo, IsUnclosed}
+use Rattle.txn_board.specs.Rule.{CanOpenBoard, HasSeat, Holds, StepsTo, IsUnclosed, SameBits, DecisionsAreWhole}
 use Rattle.txn_board.specs.Calls.{IsSettling, MayDrop, MayStart, MayStartIn, MayMark, MayClose, start_where, closing_by, closing_in, first_missing, StartsInside, StartsMarker, StartsClosing}
 use Rattle.txn_board.specs.Seen.{last_value, bit_seen, status_by, decision_by, status_told, ReadsStatus}
 use Rattle.txn_board.proofs.Steps.{log_lawful, load_in, mine}
@@ -39,7 +39,7 @@ use Rattle.txn_board.proofs.Settling.{may_settle, may_lose}
 use Rattle.txn_board.proofs.Startings.{can_start, inside_allowed, marker_allowed}
 use Rattle.txn_board.proofs.Closings.{closing_allowed}
 use Rattle.txn_board.proofs.Watermark.{closed_below, closed_is, closing_is}
-use Rattle.txn_board.proofs.Meanings.{status_is}
+use Rattle.txn_board.proofs.Meanings.{status_is, one_decision}
 use Rattle.txn_board.proofs.Telling.{logged_below, below_same, status_bits, no_loads}
 
 -- ---- Rows and loads.
@@ -66,6 +66,51 @@ two_bits lists s h x (suc (suc p)) inside low small = h.words.bits x Decided (su
     none : (es : List CoreEntry) → list_any (λ e. false) es ≡ false
     none [] = refl
     none (e ∷ es) = none es
+
+-- of two bits of which one is set at most, with those that a load showed
+one_of : (a b : Bool) → (b ≡ true → a ≡ false) → as_bit a + as_bit b ≤ 1
+one_of true true h = absurd (no_true (sym (h refl)))
+one_of true false h = omega arith
+one_of false true h = omega arith
+one_of false false h = omega arith
+
+-- a load of a decision word showed nothing, or what stands there now
+pub whole : (lists : List (List CoreEntry)) (s : table.State ℕ View) (h : Holds lists s) → DecisionsAreWhole lists s
+whole lists s h id x v l seat k inside e = go (dec_lt 0 (bit_at l.value 0)) (dec_lt 0 (bit_at l.value 1))
+  where
+    now : ℕ
+    now = slice_index s.words l.place
+
+    grows : (p : ℕ) → bit_at l.value p ≤ bit_at now p
+    grows p = loads_stay lists s h id p v l seat k
+
+    rest : (p : ℕ) → p < 62 → bit_at now (suc (suc p)) ≡ 0
+    rest p small = ap (λ i. bit_at (slice_index s.words i) (suc (suc p))) e ∙ two_bits lists s h x (suc (suc p)) inside (omega arith) (omega (arith, small))
+
+    bit : (p : ℕ) → p < 64 → bit_at now p ≡ as_bit (tells (settled_of h.state) (txn x) Decided p)
+    bit p small = ap (λ i. bit_at (slice_index s.words i) p) e ∙ h.words.bits x Decided p inside small
+
+    one : bit_at now 0 + bit_at now 1 ≤ 1
+    one =
+        let a = bit 0 (omega arith) in
+        let b = bit 1 (omega arith) in
+        let c = one_of (tells (settled_of h.state) (txn x) Decided 0) (tells (settled_of h.state) (txn x) Decided 1) (one_decision (parts_in lists) (settled_of h.state) (txn x) (log_lawful lists s h)) in
+        omega (arith, a, b, c)
+
+    none : (bit_at l.value 0 ≡ 0) → (bit_at l.value 1 ≡ 0) → SameBits l.value 0
+    none a b zero small = a ∙ sym (bit_at-zero 0)
+    none a b (suc zero) small = b ∙ sym (bit_at-zero 1)
+    none a b (suc (suc p)) small = let g = grows (suc (suc p)) in let r = rest p (omega (arith, small)) in let z = bit_at-zero (suc (suc p)) in omega (arith, g, r, z)
+
+    all : 0 < bit_at l.value 0 + bit_at l.value 1 → SameBits l.value now
+    all any zero small = let f = grows 0 in let g = grows 1 in omega (arith, any, f, g, one)
+    all any (suc zero) small = let f = grows 0 in let g = grows 1 in omega (arith, any, f, g, one)
+    all any (suc (suc p)) small = let g = grows (suc (suc p)) in let r = rest p (omega (arith, small)) in omega (arith, g, r)
+
+    go : Dec (0 < bit_at l.value 0) → Dec (0 < bit_at l.value 1) → SameBits l.value 0 ⊎ SameBits l.value now
+    go (yes a) d = inr (all (omega (arith, a)))
+    go (no n) (yes b) = inr (all (omega (arith, b)))
+    go (no n) (no m) = inl (none (omega (arith, n)) (omega (arith, m)))
 
 -- ---- Which status lies in the window.
 

@@ -27,8 +27,9 @@ use Rattle.txn_board.specs.declared.view.Load.{Load}
 use Rattle.txn_board.specs.declared.view.View.{View}
 use Rattle.txn_board.specs.declared.words.Mark.{Mark}
 use Rattle.txn_board.specs.Words.{window, is_in, word_at, WordsSay, set_bit, with_mark, is_of, entries_of}
-use Rattle.txn_board.specs.Rows.{parts_in, list_in, low_in, AreSeatRows, AreApart, HasSeatRow, loaded}
+use Rattle.txn_board.specs.Rows.{parts_in, list_in, low_in, AreSeatRows, AreApart, HasSeatRow, loaded, settle_view}
 use Rattle.txn_board.specs.Rule.{LoadsHold, KeepLoads, ShowsOn, HasSeat, Holds, AllowsTo, Found}
+use Rattle.txn_board.specs.Calls.{Settled}
 use Rattle.txn_board.proofs.Marks.{in_of, place_within}
 use Rattle.txn_board.proofs.Entries.{cut_off}
 
@@ -283,11 +284,30 @@ or_keeps id v i m next is =
 
 -- ---- Steps whose next view is told, under a promise.
 
-pub guarded : (φ : Type 0) (holds : table.State ℕ View → Type 0) (slots id : ℕ) (me : View × List (ℕ × ℕ)) (i : ℕ) (f : ℕ → ℕ) (next : ℕ → View) → AllowsTo KeepLoads id me.0 i f next → (φ → AllowsTo holds id me.0 i f next)
-    → Allows (λ s. KeepLoads s × (φ → holds s)) slots id me i f (λ n w. w ≡ (next n, me.1))
-guarded φ holds slots id me i f next loads allows = λ s h len seat fits. (next (slice_index s.words i), keeps, tt, (loads s h.0 seat, λ p. allows p s (h.1 p) seat), refl)
+-- at a settle, before and after which the rule held of a board
+pub guarded_settled : (φ : Type 0) (key lists : List (List CoreEntry)) → key ≡ lists → (slots id : ℕ) (me : View × List (ℕ × ℕ)) (i : ℕ) (f : ℕ → ℕ) → AllowsTo KeepLoads id me.0 i f (λ n. settle_view me.0)
+    → (φ → AllowsTo (Holds lists) id me.0 i f (λ n. settle_view me.0)) → Allows (λ s. KeepLoads s × (φ → Holds key s)) slots id me i f (λ n w. Settled φ lists me.0 w.0 × (w.1 ≡ me.1))
+guarded_settled φ key lists same slots id me i f loads allows =
+    λ s h len seat fits.
+    let next : View = settle_view me.0 in
+    let now : table.State ℕ View = record { words = set s.words i (f (slice_index s.words i)); homes = s.homes; views = set s.views id next } in
+    let before : φ → Holds lists s = λ p. subst (λ (k : List (List CoreEntry)). Holds k s) same (h.1 p) in
+    let after : φ → Holds lists now = λ p. allows p s (before p) seat in (
+      next,
+      keeps,
+      tt,
+      (loads s h.0 seat, λ p. subst (λ (k : List (List CoreEntry)). Holds k now) (sym same) (after p)),
+      (
+        record {
+          view = refl;
+          from = λ p. record { board = s; seat = id; rule = before p; view = seat };
+          to = λ p. record { board = now; seat = id; rule = after p; view = set_here s.views id next (there_less s.views id me.0 seat) };
+        },
+        refl,
+      ),
+    )
 
--- the same of a load, which shows what stood at its place
+-- at a load, which shows what stood at its place
 pub guarded_found : (φ : Type 0) (key lists : List (List CoreEntry)) → key ≡ lists → (slots id : ℕ) (me : View × List (ℕ × ℕ)) (i : ℕ) (next : ℕ → View) → ((n : ℕ) → (next n).loads ≡ me.0.loads ++ record { place = i; value = n } ∷ [])
     → (φ → AllowsTo (Holds lists) id me.0 i (λ n. n) next)
     → Allows (λ s. KeepLoads s × (φ → Holds key s)) slots id me i (λ n. n) (λ n w. (w ≡ (next n, me.1)) × (φ → Found lists i n me.0) × ShowsOn i n me.0.loads)

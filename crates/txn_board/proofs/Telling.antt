@@ -26,12 +26,12 @@ use Rattle.txn_board.specs.declared.words.Word.TheVariants.{Registered, Decided,
 use Rattle.txn_board.specs.Words.{window, IsIn, is_in, word_at, as_bit, is_bit_set, decides, ends, sets, teller, tells, is_of, StillHolds}
 use Rattle.txn_board.specs.Rows.{parts_in, list_in, low_in, with_loads, loaded}
 use Rattle.txn_board.specs.Rule.{LoadsHold, Holds, Found, AtLastLoad, IsTold}
-use Rattle.txn_board.specs.Seen.{place_of, last_value, bit_seen, status_by, decision_by, word_places, looked, Looked, ReadsStatus, ReadsDecision, ReadsPart, ReadsDone, IsStatusIn, IsDecisionIn, IsRegisteredIn, IsDoneIn}
+use Rattle.txn_board.specs.Seen.{place_of, last_value, bit_seen, status_by, decision_by, word_places, looked, Looked, ReadsStatus, ReadsDecision, ReadsPart, ReadsDone, StatusIsTold, IsStatusIn, IsDecisionIn, IsRegisteredIn, IsDoneIn}
 use Rattle.txn_board.proofs.Entries.{said_by, sets_of, any_more, begun_below, count_more}
 use Rattle.txn_board.proofs.Marks.{in_by}
 use Rattle.txn_board.proofs.Steps.{kept, log_lawful, below_settled}
 use Rattle.txn_board.proofs.Closings.{some_marker}
-use Rattle.txn_board.proofs.Reading.{none_more, one_bit, one_reads, two, two_view}
+use Rattle.txn_board.proofs.Reading.{none_more, one_bit, one_reads, two, two_view, not_begun, still_open, once_decided}
 use Rattle.txn_board.proofs.Meanings.{said_any, status_is, said_decision, one_decision}
 
 -- ---- A word as it stands, and one that was loaded before.
@@ -264,3 +264,19 @@ module _ (made : Type 0) (lists : List (List CoreEntry)) (x : ℕ) where
             ∙ (sym (ap (λ u. status_by u (t Decided 0) (t Decided 1) (t Done 0)) begun) ∙ status_is (parts_in lists) (settled_of g.rule.state) (txn x) law));
         outside = outside_status (status_by true (is_bit_set b 0) (is_bit_set b 1) (is_bit_set c 0)) loads v v3 r;
       }
+
+  -- ---- The status, by the words that were looked at.
+
+  pub none_is_told : (a : ℕ) (v v1 : View) → Looked made lists x Registered a v → v1 ≡ with_loads (looked lists x Registered a) v → is_bit_set a 0 ≡ false → StatusIsTold made lists x None v v1
+  none_is_told a v v1 k e h = let r = not_begun made lists x a v v1 k e h in (r, told_none a r.0 v v1 k e h r.1)
+
+  pub open_is_told : (a b : ℕ) (v v1 v2 : View) → Looked made lists x Registered a v → Looked made lists x Decided b v1 → v1 ≡ with_loads (looked lists x Registered a) v → v2 ≡ with_loads (looked lists x Decided b) v1
+      → is_bit_set a 0 ≡ true → is_bit_set b 0 ≡ false → is_bit_set b 1 ≡ false → StatusIsTold made lists x (Some Open) v v2
+  open_is_told a b v v1 v2 k l e f h c d = let r = still_open made lists x a b v v1 v2 k l e f h c d in (r, told_open a b r.0 v v1 v2 l e f h c d r.1)
+
+  pub decided_is_told : (told : Option Status) (a b c : ℕ) (v v1 v2 v3 : View) → Looked made lists x Registered a v → Looked made lists x Decided b v1 → Looked made lists x Done c v2
+      → v1 ≡ with_loads (looked lists x Registered a) v → v2 ≡ with_loads (looked lists x Decided b) v1 → v3 ≡ with_loads (looked lists x Done c) v2
+      → is_bit_set a 0 ≡ true → ((is_bit_set b 0 ≡ false) × (is_bit_set b 1 ≡ false) → ⊥) → told ≡ status_by true (is_bit_set b 0) (is_bit_set b 1) (is_bit_set c 0) → StatusIsTold made lists x told v v3
+  decided_is_told told a b c v v1 v2 v3 k l m e f g h some is =
+      let r = once_decided made lists x a b c v v1 v2 v3 k l m e f g h some in
+      subst (λ s. StatusIsTold made lists x s v v3) (sym is) (r, told_decided a b c r.0 v v1 v2 v3 m e f g h some r.1)

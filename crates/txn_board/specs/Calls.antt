@@ -23,7 +23,7 @@ use Rattle.txn_board.specs.Seen.{decision_by}
 use Rattle.std.specs.List.{list_any, list_all}
 use Rattle.txn_board.specs.Words.{window, IsIn, is_in, word_at, own_place, mark_of, is_bit_set, sets, teller}
 use Rattle.txn_board.specs.Rows.{parts_in, low_in, start_view, settle_view, drop_view, loaded}
-use Rattle.txn_board.specs.Rule.{Holds, AllowsTo, Found, ShowsOn, StepsTo}
+use Rattle.txn_board.specs.Rule.{Holds, AllowsTo, Found, HeldBy, ShowsOn, StepsTo}
 
 -- The seat has the row of this part alone, and this entry is the first in flight.
 pub record IsSettling (part : ℕ) (e : CoreEntry) (v : View) : Type 0 where
@@ -195,6 +195,13 @@ pub record Turns (made : Type 0) (lists : List (List CoreEntry)) (next before no
   pub found : made → Found lists own_place value before
   pub grows : ShowsOn own_place value before.loads
 
+-- The first entry in flight settled. Where the promise is made, the rule held of a board where a seat had the view before, and
+-- of one where it has this view.
+pub record Settled (made : Type 0) (lists : List (List CoreEntry)) (before now : View) : Type 0 where
+  pub view : now ≡ settle_view before
+  pub from : made → HeldBy lists before
+  pub to : made → HeldBy lists now
+
 -- The call loaded this word of x, which showed the value n, and these entries started.
 pub record Starts (made : Type 0) (lists : List (List CoreEntry)) (x : ℕ) (w : Word) (n : ℕ) (es : List CoreEntry) (before now : View) : Type 0 where
   pub view : now ≡ loaded (word_at (low_in lists) x w) n (start_where es before)
@@ -232,8 +239,8 @@ DropsByStep lists c v = (m : MayDrop v) → StepsTo (parts_in lists) c (act.Stop
 abbrev pub StartsByStep : List (List CoreEntry) → CoreState → View → Type 0
 StartsByStep lists c v = (es : List CoreEntry) (m : MayStart (parts_in lists) es v) → MayCross c m.row.part es → StepsTo (parts_in lists) c (act.Start m.row.part es) m.row.part (start_view es v)
 
--- A start that loads words of its transaction is a step of the core at the moment of its last load: that of messages or a
--- hold, of a marker, of a closing.
+-- A start that loads words of its transaction is a step of the core, allowed on the board of the rule that its last load tells:
+-- that of messages or a hold, of a marker, of a closing.
 abbrev pub InsideByStep : Type 0 → Type 0
 InsideByStep made = (lists : List (List CoreEntry)) (x count n : ℕ) (before now : View) (k : StartsInside made lists x count n true before now) (p : made) (m : MayStartIn (parts_in lists) x count before) → IsIn (low_in lists) window x
     → StepsTo (parts_in lists) (k.starts.found p).rule.state (act.Start m.may.row.part (replicate count (core.Inside (txn x)))) m.may.row.part now

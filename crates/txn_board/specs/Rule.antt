@@ -1,5 +1,5 @@
 -- The rule of the board, which holds between any two steps.
-use Rattle.std.specs.Prelude.{◌≡◌, ℕ, ◌≤◌, ◌<◌, ◌+◌, true, false, Some, slice_set, slice_index, Contains, List, [], ◌∷◌, ◌++◌, length}
+use Rattle.std.specs.Prelude.{◌≡◌, ◌⊎◌, ℕ, ◌≤◌, ◌<◌, ◌+◌, true, false, Some, slice_set, slice_index, Contains, List, [], ◌∷◌, ◌++◌, length}
 use mathlib.Core.Option.{some}
 use lib.ListN.{get_elem?}
 use Rattle.std.specs.Int.{bit_at}
@@ -88,6 +88,13 @@ pub record Found (lists : List (List CoreEntry)) (place value : ℕ) (v : View) 
   pub view : get_elem? board.views seat ≡ some v
   pub stood : slice_index board.words place ≡ value
 
+-- The rule held of a board where a seat had this view.
+pub record HeldBy (lists : List (List CoreEntry)) (v : View) : Type 0 where
+  pub board : table.State ℕ View
+  pub seat : ℕ
+  pub rule : Holds lists board
+  pub view : get_elem? board.views seat ≡ some v
+
 -- Of each of these loads in turn, from this view on, this is so by its place, its value and the view before it.
 abbrev pub EachInTurn : (ℕ → ℕ → View → Type 0) → View → List Load → Type 0
 EachInTurn fact v [] = Unit {0}
@@ -159,6 +166,14 @@ LoadsStay s = (id p : ℕ) (v : View) (l : Load) → get_elem? s.views id ≡ so
 -- Of the decision word of a transaction of the window, no bit past the first two is set.
 abbrev pub TwoBitsDecide : List (List CoreEntry) → table.State ℕ View → Type 0
 TwoBitsDecide lists s = (x p : ℕ) → IsIn (low_in lists) window x → 2 ≤ p → p < 64 → bit_at (slice_index s.words (word_at (low_in lists) x Decided)) p ≡ 0
+
+-- The first 64 bits of these numbers are the same.
+abbrev pub SameBits : ℕ → ℕ → Type 0
+SameBits a b = (p : ℕ) → p < 64 → bit_at a p ≡ bit_at b p
+
+-- Each load of the decision word of a transaction of the window showed nothing, or what stands there now.
+abbrev pub DecisionsAreWhole : List (List CoreEntry) → table.State ℕ View → Type 0
+DecisionsAreWhole lists s = (id x : ℕ) (v : View) (l : Load) → get_elem? s.views id ≡ some v → Contains v.loads l → IsIn (low_in lists) window x → l.place ≡ word_at (low_in lists) x Decided → SameBits l.value 0 ⊎ SameBits l.value (slice_index s.words l.place)
 
 -- Where there are n parts beside the coordinator, the core may make this step, and after it the view has the core's row of
 -- this part alone.

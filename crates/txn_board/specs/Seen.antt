@@ -16,7 +16,7 @@ use Rattle.txn_board.specs.declared.words.Word.{Word}
 use Rattle.txn_board.specs.declared.words.Word.TheVariants.{Registered, Decided, Done}
 use Rattle.txn_board.specs.Words.{window, IsIn, is_in, word_at, as_bit, is_bit_set, tells}
 use Rattle.txn_board.specs.Rows.{list_in, low_in, with_loads}
-use Rattle.txn_board.specs.Rule.{Found, AreFound, ShowsOn, ShowOn}
+use Rattle.txn_board.specs.Rule.{Found, AreFound, ShowsOn, ShowOn, IsTold}
 
 abbrev pub place_of : Load → ℕ
 place_of l = l.place
@@ -152,3 +152,7 @@ IsRegisteredIn x part told c = told ≡ (nat_le 1 part && nat_lt part 64 && in_p
 
 abbrev pub IsDoneIn : ℕ → ℕ → CoreState → Type 0
 IsDoneIn x told c = IsWordIn x Done told c
+
+-- A status is told by loads, and it is so of the core's state.
+abbrev pub StatusIsTold : Type 0 → List (List CoreEntry) → ℕ → Option Status → View → View → Type 0
+StatusIsTold made lists x told before now = StatusIsRead made lists x told before now × IsTold made lists x before now (IsStatusIn x told)

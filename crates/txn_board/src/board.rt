@@ -116,8 +116,9 @@ pub struct Opened<T: Promise> {
 }
 
 impl<T: Promise> Opened<T> {
-    /// A board whose words say what these lists say, that of part p at position p. It takes 24 bytes for each transaction of
-    /// the window and for each that the log begins, and while it fills them as many again for the window.
+    /// A board whose words say what these lists say, that of part p at position p. It keeps 24 bytes for each transaction of
+    /// the window and for each below it; while it fills them it takes 24 for each that the log begins, and those of the window
+    /// twice.
     pub fn of_lists(alloc: Global, lists: &Skeletons) -> Result<Opened<T>, AllocError>
         requires log { 1 ≤ length lists.now }
         requires few { length lists.now ≤ 63 }
@@ -136,6 +137,7 @@ impl<T: Promise> Opened<T> {
             alloc, words, lists,
         )?;
         fixed.truncate(3 * low as usize);
+        fixed.shrink_to_fit();
         Ok(Opened {
             table,
             seat,

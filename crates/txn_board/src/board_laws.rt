@@ -18,7 +18,7 @@ ghost use Rattle.txn_board.specs.declared.words.Word.TheVariants.{Registered, De
 ghost use Rattle.txn_board.specs.Words.{window, IsIn, word_at, WordsSay, tells, low_of_log};
 ghost use Rattle.txn_board.specs.Rows.{parts_in, list_in, low_in, opening_view};
 ghost use Rattle.txn_board.specs.Rule.{CanOpenBoard, Holds, AtEachMoment, OfEachView, OfEachLoad, OpensBy, RowsAreCores, HaveSeats, SeatsAreApart, RowsAreApart};
-ghost use Rattle.txn_board.specs.Rule.{IsSettledBelow, FitsWindow, LoadsStay, TwoBitsDecide, IsUnclosed};
+ghost use Rattle.txn_board.specs.Rule.{IsSettledBelow, FitsWindow, LoadsStay, TwoBitsDecide, DecisionsAreWhole, IsUnclosed};
 ghost use Rattle.txn_board.specs.Calls.{IsOfRow, SettlesByStep, DropsByStep, StartsByStep, InsideByStep, MarkerByStep, CloseByStep};
 ghost use Rattle.txn_board.specs.Seen.{OfAnyLists, OfLawfulLogs, ToldWithin, status_told, decision_told, IsWordIn, IsStatusIn};
 
@@ -44,7 +44,7 @@ pub fn the_rule_has_a_core()
 {}
 
 /// What the rule says between any two steps: of the words; of the rows, each part's in one seat; of the transactions below the
-/// window and of those that are begun; and of the loads.
+/// window and of those that are begun; and of the loads: their bits stay, and those of a decision show nothing or all of it.
 pub fn the_rule_in_full()
     ensures words { AtEachMoment (λ lists s c. WordsSay (low_in lists) window s.words (settled_of c)) }
     ensures two_bits { AtEachMoment (λ lists s c. TwoBitsDecide lists s) }
@@ -55,6 +55,7 @@ pub fn the_rule_in_full()
     ensures below { AtEachMoment (λ lists s c. IsSettledBelow lists c) }
     ensures fits { AtEachMoment (λ lists s c. FitsWindow lists c) }
     ensures loads { AtEachMoment (λ lists s c. LoadsStay s) }
+    ensures whole { AtEachMoment (λ lists s c. DecisionsAreWhole lists s) }
 {}
 
 /// A seat's row changes by a step of the core: where its first entry settles, where its flight is lost, and where it starts
@@ -65,8 +66,8 @@ pub fn rows_change_by_core_steps()
     ensures start { OfEachView StartsByStep }
 {}
 
-/// A start that loads words of its transaction is a step of the core at the moment of its last load: of messages or a hold, of
-/// a marker, of a closing.
+/// A start that loads words of its transaction is an allowed step of the core, on a board of the rule where a seat had the view
+/// of its last load: of messages or a hold, of a marker, of a closing.
 pub fn starts_are_core_steps<T: Promise>()
     ensures inside { InsideByStep T.made }
     ensures marker { MarkerByStep T.made }
@@ -84,8 +85,8 @@ pub fn an_open_one_lies_in_the_window<T: Promise>()
     ensures { (lists : List (List CoreEntry)) (x : ℕ) (st : Status) → CanOpenBoard lists → IsUnclosed st → ToldWithin T.made lists x st }
 {}
 
-/// A load of a transaction's word shows what the lists say at that moment; and where that is the list of the seat's own part,
-/// what its row says.
+/// A load of a word in the window shows what the lists said on a board of the rule where a seat had the view of that load; and
+/// where that is the list of the seat's own part, what its row says.
 pub fn a_load_shows_the_lists()
     ensures bits { OfEachLoad (λ x w n v c. IsWordIn x w n c) }
     ensures row { OfEachLoad (λ x w n v c. IsOfRow x w n v) }

@@ -3,7 +3,7 @@ ghost use Rattle.std.specs.Prelude.{◌≡◌, true, Some};
 ghost use Rattle.txn_board.specs.declared.words.Word.TheVariants.{Registered};
 ghost use Rattle.txn_board.specs.Calls.{start_place};
 ghost use Rattle.txn_board.specs.Rule.{IsTold};
-ghost use Rattle.txn_board.specs.Seen.{status_by, decision_by, StatusIsRead, DecisionIsRead, PartIsRead, DoneIsRead};
+ghost use Rattle.txn_board.specs.Seen.{status_by, decision_by, StatusIsRead, StatusIsTold, DecisionIsRead, PartIsRead, DoneIsRead};
 ghost use Rattle.txn_board.specs.Seen.{IsStatusIn, IsDecisionIn, IsRegisteredIn, IsDoneIn};
 
 use crate::board::{Board, BoardSeat, Naming, Promise};
@@ -57,8 +57,7 @@ impl<T: Promise, N: Naming> Board<T, N> {
     /// In the window, by the place of the transaction's first word.
     fn status_at(&self, seat: &mut BoardSeat<N>, txn: u64, first: usize) -> Option<Status>
         requires { start_place N.lists txn Registered ≡ Some first }
-        ensures read { StatusIsRead T.made N.lists txn result seat.old seat.new }
-        ensures told { IsTold T.made N.lists txn seat.old seat.new (IsStatusIn txn result) }
+        ensures { StatusIsTold T.made N.lists txn result seat.old seat.new }
     {
         let reg = self.look_at(seat, txn, Word::Registered, first);
         if !is_bit_set(reg, 0) {
@@ -76,8 +75,7 @@ impl<T: Promise, N: Naming> Board<T, N> {
 
     /// Anywhere, each word by itself.
     fn status_by_word(&self, seat: &mut BoardSeat<N>, txn: u64) -> Option<Status>
-        ensures read { StatusIsRead T.made N.lists txn result seat.old seat.new }
-        ensures told { IsTold T.made N.lists txn seat.old seat.new (IsStatusIn txn result) }
+        ensures { StatusIsTold T.made N.lists txn result seat.old seat.new }
     {
         let reg = self.look(seat, txn, Word::Registered);
         if !is_bit_set(reg, 0) {

@@ -6,24 +6,26 @@ ghost use Rattle.txn_model.specs.Deadlines.{txn as txn_of};
 ghost use Rattle.txn_board.specs.declared.words.Mark.{Mark};
 ghost use Rattle.txn_board.specs.Words.{window, with_mark};
 ghost use Rattle.txn_board.specs.Rows.{low_in, settle_view, drop_view};
-ghost use Rattle.txn_board.specs.Calls.{IsSettling, IsSetting, IsSettlingOwn, IsEnding, MayDrop, Turns, reg_entry, ending_mark};
+ghost use Rattle.txn_board.specs.Calls.{IsSettling, IsSetting, IsSettlingOwn, IsEnding, MayDrop, Turns, Settled, reg_entry, ending_mark};
 
 use crate::board::{Board, BoardSeat, Naming, Promise};
 use crate::fill::WINDOW;
 use crate::view::View;
 use crate::words::{Mark, RowStep, Word, mark_of, mask_of, offset_of};
 use atomic_table::Play;
-use std::marker::Brand;
+use std::marker::{Brand, PhantomData};
 use txn_base::{CoreEntry, Decision, TxnId};
 
-/// The first entry in flight settles.
-pub struct Settles;
+/// The first entry in flight settles. Where the promise is made, the rule held of the board before, and holds of it since.
+pub struct Settles<T: Promise, N: Naming> {
+    of: PhantomData<(T, N)>,
+}
 
-impl Play<u8, View> for Settles {
+impl<T: Promise, N: Naming> Play<u8, View> for Settles<T, N> {
     ghost use Rattle.std.specs.Prelude.{◌≡◌};
-    ghost use Rattle.txn_board.specs.Rows.{settle_view};
+    ghost use Rattle.txn_board.specs.Calls.{Settled};
 
-    ghost then = { λ s me n w. w ≡ (settle_view me.0, me.1) };
+    ghost then = { λ s me n w. Settled T.made N.lists me.0 w.0 × (w.1 ≡ me.1) };
 }
 
 impl<T: Promise, N: Naming> Board<T, N> {
@@ -50,12 +52,12 @@ impl<T: Promise, N: Naming> Board<T, N> {
     fn settle(&self, seat: &mut BoardSeat<N>, mark: Option<Mark>)
         requires bit { IfSome mark (λ m. m.bit < 64) }
         requires first { T.made → IsSetting mark seat.old }
-        ensures { seat.new ≡ settle_view seat.old }
+        ensures { Settled T.made N.lists seat.old seat.new }
     {
         let (place, mask) = self.bit_of(mark);
         self.table
             .shared
-            .fetch_or::<Settles>(&mut seat.seat, place, mask);
+            .fetch_or::<Settles<T, N>>(&mut seat.seat, place, mask);
     }
 
     /// The first message or hold in flight settles.
@@ -77,7 +79,7 @@ impl<T: Promise, N: Naming> Board<T, N> {
     /// The `New` in flight settles, for part 0, or the `AddPart` of another part.
     pub fn settle_reg(&self, seat: &mut BoardSeat<N>, txn: u64, part: u32)
         requires { T.made → IsSettling 0 (reg_entry txn part) seat.old }
-        ensures { seat.new ≡ settle_view seat.old }
+        ensures { Settled T.made N.lists seat.old seat.new }
     {
         let txn = TxnId {
             most: 0,
@@ -94,7 +96,7 @@ impl<T: Promise, N: Naming> Board<T, N> {
     /// The decision in flight settles.
     pub fn settle_dec(&self, seat: &mut BoardSeat<N>, txn: u64, decision: Decision)
         requires { T.made → IsSettling 0 (decision_skeleton (txn_of txn) decision) seat.old }
-        ensures { seat.new ≡ settle_view seat.old }
+        ensures { Settled T.made N.lists seat.old seat.new }
     {
         let txn = TxnId {
             most: 0,
@@ -110,7 +112,7 @@ impl<T: Promise, N: Naming> Board<T, N> {
     /// The marker in flight settles, or for the coordinator the closing.
     pub fn settle_done(&self, seat: &mut BoardSeat<N>, txn: u64)
         requires { T.made → IsEnding txn seat.old }
-        ensures { seat.new ≡ settle_view seat.old }
+        ensures { Settled T.made N.lists seat.old seat.new }
     {
         let mark = ending_mark(seat.part, txn);
         self.settle(seat, mark);
@@ -119,7 +121,7 @@ impl<T: Promise, N: Naming> Board<T, N> {
     /// An entry of the coordinator settles.
     fn settle_entry(&self, seat: &mut BoardSeat<N>, entry: CoreEntry)
         requires { T.made → IsSettling 0 entry seat.old }
-        ensures { seat.new ≡ settle_view seat.old }
+        ensures { Settled T.made N.lists seat.old seat.new }
     {
         let mark = mark_of(0, entry);
         self.settle(seat, mark);

@@ -4,6 +4,7 @@ use Rattle.txn_base.specs.declared.txn.Decision.{Decision}
 use Rattle.txn_base.specs.declared.core_entry.CoreEntry.{CoreEntry}
 use Rattle.txn_base.specs.declared.core_entry.CoreEntry.TheVariants as core
 use Rattle.txn_model.specs.Deadlines.{txn}
+use Rattle.txn_core.specs.Steps.{start_row}
 use Rattle.txn_core.specs.Kept.{resting_row}
 use Rattle.txn_board.specs.declared.view.View.{View}
 use Rattle.txn_board.specs.Rows.{IsSeatOf}
@@ -25,3 +26,7 @@ marked d = core.Inside (txn 0) ∷ core.Marker (txn 0) d ∷ []
 -- The seat has the row of this part, with these entries settled and nothing in flight.
 abbrev pub Rests : ℕ → List CoreEntry → View → Type 0
 Rests part es v = IsSeatOf part (resting_row es) v
+
+-- The seat has the row of this part, with these entries settled and those in flight, if any; they are the last that started.
+abbrev pub IsFlying : ℕ → List CoreEntry → List CoreEntry → View → Type 0
+IsFlying part es more v = IsSeatOf part (start_row more (resting_row es)) v

@@ -2,6 +2,7 @@
 //! closed.
 #![tactic(auto)]
 
+mod fresh;
 mod measure;
 mod openings;
 mod story;
@@ -9,8 +10,9 @@ mod surely;
 #[cfg(test)]
 mod threads;
 
-use crate::measure::{Work, measure};
-use crate::openings::{Found, Fresh, fresh_seats, full_window, low_three, many_lists};
+use crate::fresh::{Fresh, fresh_seats, turned_answers};
+use crate::measure::{Counted, Kind, Work, measure};
+use crate::openings::{Found, full_window, low_three, many_lists};
 use crate::story::{Told, closed_board, open_board};
 use crate::surely::sure_board;
 use std::alloc::AllocError;
@@ -29,7 +31,7 @@ fn main(rt: HostRuntime) -> ExitCode {
     }
 }
 
-/// What is to be measured, where the words are `status` or `steps`, a number of threads and one of rounds.
+/// What is to be measured, where the words are `status`, `steps` or `beside`, a number of threads and one of rounds.
 fn asked(rt: HostRuntime) -> Result<Option<Work>, std::io::Error> {
     let mut words = env::args(&rt)?.skip(1);
     let (Some(kind), Some(threads), Some(rounds)) = (words.next(), words.next(), words.next())
@@ -42,17 +44,22 @@ fn asked(rt: HostRuntime) -> Result<Option<Work>, std::io::Error> {
     ) else {
         return Ok(None);
     };
-    let reads = kind.as_str() == "status";
+    let kind = match kind.as_str() {
+        "status" => Kind::Reads,
+        "beside" => Kind::Beside,
+        _ => Kind::Steps,
+    };
     Ok(Some(Work {
-        reads,
+        kind,
         threads,
         rounds,
     }))
 }
 
-fn tell_count(rt: HostRuntime, count: Result<u64, AllocError>) -> Result<(), std::io::Error> {
-    match count {
-        Ok(count) => println!(rt; "{count}"),
+/// How many were counted, and behind it how many reads were made beside.
+fn tell_count(rt: HostRuntime, counted: Result<Counted, AllocError>) -> Result<(), std::io::Error> {
+    match counted {
+        Ok(Counted { count, beside }) => println!(rt; "{count} {beside}"),
         Err(_) => println!(rt; "no memory"),
     }
 }
@@ -72,6 +79,10 @@ fn report(rt: HostRuntime) -> Result<(), std::io::Error> {
     tell_found(rt, "a window of open ones", full_window(rt.alloc()))?;
     tell_fresh(rt, "first a message", fresh_seats(rt.alloc(), true))?;
     tell_fresh(rt, "first a marker", fresh_seats(rt.alloc(), false))?;
+    match turned_answers(rt.alloc()) {
+        Ok(turned) => println!(rt; "before an entry settles and after: {:?}", turned)?,
+        Err(_) => println!(rt; "before an entry settles and after: no memory")?,
+    }
     match sure_board(rt.alloc()) {
         Ok(told) => println!(rt; "a transaction whose conditions are shown: {:?}", told)?,
         Err(_) => println!(rt; "a transaction whose conditions are shown: no memory")?,

@@ -1,8 +1,8 @@
-//! Boards of lists at the bounds, and seats whose first call is asked.
+//! Boards of lists at the bounds.
 ghost use Rattle.std.specs.Prelude.{◌≡◌, ◌≤◌, ◌<◌, [], length};
 ghost use Rattle.txn_board.specs.Rows.{opening_view};
 
-use crate::story::{Untold, deal_parts, split};
+use crate::story::Untold;
 use std::alloc::{AllocError, Global};
 use std::marker::Brand;
 use txn_base::{CoreEntry, Decision, Status, TxnId};
@@ -19,18 +19,6 @@ pub struct Found {
     pub last: Option<Status>,
     pub past: Option<Status>,
     pub part: bool,
-    pub done: u64,
-}
-
-/// What seats were told at the first call of each, of a transaction that was decided when the board was opened: a part, and
-/// once it is closed four readers.
-#[derive(Debug, Drop)]
-pub struct Fresh {
-    pub inside: Option<bool>,
-    pub marker: Option<Decision>,
-    pub status: Option<Status>,
-    pub decision: Option<Decision>,
-    pub registered: bool,
     pub done: u64,
 }
 
@@ -126,47 +114,4 @@ pub fn full_window(alloc: Global) -> Result<Found, AllocError> {
     begin(&mut lists, 65_536)?;
     let opened = Opened::<Untold>::of_lists(alloc, &lists)?;
     Ok(ask::<Brand>(opened))
-}
-
-/// The part's first call is the start of a message, or that of the marker; then the transaction is closed, and each reader
-/// asks once.
-fn ask_fresh<N: Naming>(opened: Opened<Untold>, message: bool) -> Fresh
-    requires table { opened.table.shared.table_id ≡ N.table }
-    requires lists { opened.table.shared.key ≡ N.lists }
-    requires two { length N.lists ≡ 2 }
-{
-    let (board, mut seats) = opened.named::<N>();
-    let (mut coord, mut part) = deal_parts(&board, &mut seats);
-    let mut first = seats.readers();
-    let mut inside = None;
-    if message {
-        inside = Some(board.start_in(&mut part, 0, 1));
-        board.settle_own(&mut part);
-    }
-    let marker = board.start_marker(&mut part, 0);
-    board.settle_done(&mut part, 0);
-    let _ = board.start_close(&mut coord, 0);
-    board.settle_done(&mut coord, 0);
-    let mut second = split(&board, &mut first);
-    let mut third = split(&board, &mut first);
-    let mut fourth = split(&board, &mut first);
-    Fresh {
-        inside,
-        marker,
-        status: board.status(&mut first, 0),
-        decision: board.decision(&mut second, 0),
-        registered: board.registered(&mut third, 0, 1),
-        done: board.done(&mut fourth, 0),
-    }
-}
-
-/// A board whose first transaction has its part and its decision.
-pub fn fresh_seats(alloc: Global, message: bool) -> Result<Fresh, AllocError> {
-    let txn = numbered(0);
-    let mut lists = Skeletons::new(alloc, 1)?;
-    add(&mut lists, 0, CoreEntry::New { txn })?;
-    add(&mut lists, 0, CoreEntry::AddPart { txn, part: 1 })?;
-    add(&mut lists, 0, CoreEntry::Committing { txn })?;
-    let opened = Opened::<Untold>::of_lists(alloc, &lists)?;
-    Ok(ask_fresh::<Brand>(opened, message))
 }

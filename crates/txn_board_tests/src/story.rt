@@ -1,6 +1,7 @@
 //! The boards and what is asked of them.
-ghost use Rattle.std.specs.Prelude.{◌≡◌, ◌<◌, [], length};
+ghost use Rattle.std.specs.Prelude.{◌≡◌, ◌<◌, [], ◌∷◌, length};
 ghost use Rattle.txn_board.specs.Rows.{IsOfPart, opening_view};
+ghost use Rattle.txn_board_tests.specs.Sure.{Rests};
 
 use std::alloc::{AllocError, Global};
 use std::marker::Brand;
@@ -100,6 +101,22 @@ pub fn deal_parts<N: Naming>(
     requires two { length N.lists ≡ 2 }
     ensures coord { IsOfPart 0 result.0 }
     ensures part { IsOfPart 1 result.1 }
+    ensures rest { seats.new.rows ≡ [] }
+{
+    let coord = board.deal(seats);
+    let part = board.deal(seats);
+    (coord, part)
+}
+
+/// The seats of the two parts of empty lists.
+pub fn deal_empty<N: Naming>(
+    board: &Board<Untold, N>,
+    seats: &mut Seats<N>,
+) -> (BoardSeat<N>, BoardSeat<N>)
+    requires all { seats.old ≡ opening_view N.lists }
+    requires lists { N.lists ≡ [] ∷ [] ∷ [] }
+    ensures coord { Rests 0 [] result.0 }
+    ensures part { Rests 1 [] result.1 }
     ensures rest { seats.new.rows ≡ [] }
 {
     let coord = board.deal(seats);

@@ -1,5 +1,5 @@
 use Rattle.txn_board.proofs.Seating.{one_seat}
-use Rattle.txn_board.proofs.Sentences.{rows_are, loads_stay, seated_all, two_bits}
+use Rattle.txn_board.proofs.Sentences.{rows_are, loads_stay, seated_all, two_bits, whole}
 use Rattle.txn_board.proofs.board_laws.the_rule_in_full.Goals as goal
 
 pub returns-clause-words : goal.returns-clause-words
@@ -28,3 +28,6 @@ returns-clause-fits c = λ lists s h. h.fits
 
 pub returns-clause-loads : goal.returns-clause-loads
 returns-clause-loads c = loads_stay
+
+pub returns-clause-whole : goal.returns-clause-whole
+returns-clause-whole c = whole

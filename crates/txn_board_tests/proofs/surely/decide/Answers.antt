@@ -29,7 +29,7 @@ settle_reg-requires g c = λ p.
 pub start_own-requires-2-clause-row : goal.start_own-requires-2-clause-row
 start_own-requires-2-clause-row g c =
     let a = started (resting_row []) (core.New (txn 0)) c.args.coord.now c.start_own.new.seat c.start_own.ensures.value (first_seat g.N.Naming.lists c.args.coord.now c.requires.lists c.requires.seat) c.start_own.ensures.view in
-    let b = settled (resting_row []) (core.New (txn 0)) c.start_own.new.seat c.settle_reg.new.seat a c.settle_reg.ensures in
+    let b = settled (resting_row []) (core.New (txn 0)) c.start_own.new.seat c.settle_reg.new.seat a c.settle_reg.ensures.view in
     λ p. may (parts_in g.N.Naming.lists) second (core.AddPart (txn 0) 1 ∷ []) c.settle_reg.new.seat b refl refl (subst (λ ls. is_alone (parts_in ls) 0 (core.New (txn 0) ∷ core.AddPart (txn 0) 1 ∷ []) ≡ true) (sym c.requires.lists) refl)
 
 pub start_own-requires-2-clause-window : goal.start_own-requires-2-clause-window
@@ -38,15 +38,15 @@ start_own-requires-2-clause-window g c = λ p. within g.N.Naming.lists c.require
 pub settle_reg-requires-2 : goal.settle_reg-requires-2
 settle_reg-requires-2 g c =
     let a = started (resting_row []) (core.New (txn 0)) c.args.coord.now c.start_own.new.seat c.start_own.ensures.value (first_seat g.N.Naming.lists c.args.coord.now c.requires.lists c.requires.seat) c.start_own.ensures.view in
-    let b = settled (resting_row []) (core.New (txn 0)) c.start_own.new.seat c.settle_reg.new.seat a c.settle_reg.ensures in
+    let b = settled (resting_row []) (core.New (txn 0)) c.start_own.new.seat c.settle_reg.new.seat a c.settle_reg.ensures.view in
     λ p. settling second (core.AddPart (txn 0) 1) c.start_own-2.new.seat (started second (core.AddPart (txn 0) 1) c.settle_reg.new.seat c.start_own-2.new.seat c.start_own-2.ensures.value b c.start_own-2.ensures.view)
 
 pub start_own-requires-3-clause-row : goal.start_own-requires-3-clause-row
 start_own-requires-3-clause-row g c =
     let a = started (resting_row []) (core.New (txn 0)) c.args.coord.now c.start_own.new.seat c.start_own.ensures.value (first_seat g.N.Naming.lists c.args.coord.now c.requires.lists c.requires.seat) c.start_own.ensures.view in
-    let b = settled (resting_row []) (core.New (txn 0)) c.start_own.new.seat c.settle_reg.new.seat a c.settle_reg.ensures in
+    let b = settled (resting_row []) (core.New (txn 0)) c.start_own.new.seat c.settle_reg.new.seat a c.settle_reg.ensures.view in
     let d = started second (core.AddPart (txn 0) 1) c.settle_reg.new.seat c.start_own-2.new.seat c.start_own-2.ensures.value b c.start_own-2.ensures.view in
-    let e = settled second (core.AddPart (txn 0) 1) c.start_own-2.new.seat c.settle_reg-2.new.seat d c.settle_reg-2.ensures in
+    let e = settled second (core.AddPart (txn 0) 1) c.start_own-2.new.seat c.settle_reg-2.new.seat d c.settle_reg-2.ensures.view in
     λ p.
     may (parts_in g.N.Naming.lists) third (core.Committing (txn 0) ∷ []) c.settle_reg-2.new.seat e refl refl
     (subst (λ ls. is_alone (parts_in ls) 0 (core.New (txn 0) ∷ core.AddPart (txn 0) 1 ∷ core.Committing (txn 0) ∷ []) ≡ true) (sym c.requires.lists) refl)
@@ -57,16 +57,16 @@ start_own-requires-3-clause-window g c = λ p. within g.N.Naming.lists c.require
 pub settle_dec-requires : goal.settle_dec-requires
 settle_dec-requires g c =
     let a = started (resting_row []) (core.New (txn 0)) c.args.coord.now c.start_own.new.seat c.start_own.ensures.value (first_seat g.N.Naming.lists c.args.coord.now c.requires.lists c.requires.seat) c.start_own.ensures.view in
-    let b = settled (resting_row []) (core.New (txn 0)) c.start_own.new.seat c.settle_reg.new.seat a c.settle_reg.ensures in
+    let b = settled (resting_row []) (core.New (txn 0)) c.start_own.new.seat c.settle_reg.new.seat a c.settle_reg.ensures.view in
     let d = started second (core.AddPart (txn 0) 1) c.settle_reg.new.seat c.start_own-2.new.seat c.start_own-2.ensures.value b c.start_own-2.ensures.view in
-    let e = settled second (core.AddPart (txn 0) 1) c.start_own-2.new.seat c.settle_reg-2.new.seat d c.settle_reg-2.ensures in
+    let e = settled second (core.AddPart (txn 0) 1) c.start_own-2.new.seat c.settle_reg-2.new.seat d c.settle_reg-2.ensures.view in
     λ p. settling third (core.Committing (txn 0)) c.start_own-3.new.seat (started third (core.Committing (txn 0)) c.settle_reg-2.new.seat c.start_own-3.new.seat c.start_own-3.ensures.value e c.start_own-3.ensures.view)
 
 pub returns : goal.returns
 returns g c =
     let a = started (resting_row []) (core.New (txn 0)) c.args.coord.now c.start_own.new.seat c.start_own.ensures.value (first_seat g.N.Naming.lists c.args.coord.now c.requires.lists c.requires.seat) c.start_own.ensures.view in
-    let b = settled (resting_row []) (core.New (txn 0)) c.start_own.new.seat c.settle_reg.new.seat a c.settle_reg.ensures in
+    let b = settled (resting_row []) (core.New (txn 0)) c.start_own.new.seat c.settle_reg.new.seat a c.settle_reg.ensures.view in
     let d = started second (core.AddPart (txn 0) 1) c.settle_reg.new.seat c.start_own-2.new.seat c.start_own-2.ensures.value b c.start_own-2.ensures.view in
-    let e = settled second (core.AddPart (txn 0) 1) c.start_own-2.new.seat c.settle_reg-2.new.seat d c.settle_reg-2.ensures in
+    let e = settled second (core.AddPart (txn 0) 1) c.start_own-2.new.seat c.settle_reg-2.new.seat d c.settle_reg-2.ensures.view in
     let f = started third (core.Committing (txn 0)) c.settle_reg-2.new.seat c.start_own-3.new.seat c.start_own-3.ensures.value e c.start_own-3.ensures.view in
-    settled third (core.Committing (txn 0)) c.start_own-3.new.seat c.settle_dec.new.seat f c.settle_dec.ensures
+    settled third (core.Committing (txn 0)) c.start_own-3.new.seat c.settle_dec.new.seat f c.settle_dec.ensures.view

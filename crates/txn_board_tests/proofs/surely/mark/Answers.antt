@@ -4,7 +4,7 @@ use Rattle.txn_model.specs.Deadlines.{txn}
 use Rattle.txn_board.specs.declared.view.View.{View}
 use Rattle.txn_board.specs.Rows.{parts_in}
 use Rattle.txn_board_tests.specs.Sure.{sent}
-use Rattle.txn_board_tests.proofs.Shown.{resting, marker_starts, flying, settles_to}
+use Rattle.txn_board_tests.proofs.Shown.{within, resting, marker_starts, flying, settles_to}
 use Rattle.txn_board_tests.proofs.surely.mark.Goals as goal
 
 pub start_marker-requires : goal.start_marker-requires
@@ -14,12 +14,12 @@ pub settle_done-requires : goal.settle_done-requires
 settle_done-requires g c =
     let d = c.in_ok-decision.decision in
     let is : c.start_marker.result ≡ Some d = search rules in
-    let k = marker_starts _ g.N.Naming.lists c.requires.lists c.start_marker.result d sent c.args.part.now c.start_marker.new.seat c.requires.seat is c.start_marker.ensures.within in
+    let k = marker_starts _ g.N.Naming.lists 0 (within g.N.Naming.lists c.requires.lists) c.start_marker.result (Some d) sent c.args.part.now c.start_marker.new.seat c.requires.seat is c.start_marker.ensures.within in
     λ p. record { part = 1; decision = d; settling = flying 1 sent (core.Marker (txn 0) d) c.start_marker.new.seat k }
 
 pub returns : goal.returns
 returns g c =
     let d = c.in_ok-decision.decision in
     let is : c.start_marker.result ≡ Some d = search rules in
-    let k = marker_starts _ g.N.Naming.lists c.requires.lists c.start_marker.result d sent c.args.part.now c.start_marker.new.seat c.requires.seat is c.start_marker.ensures.within in
-    settles_to 1 sent (core.Marker (txn 0) d) c.start_marker.new.seat c.settle_done.new.seat k (ap (λ (u : View). u.rows) c.settle_done.ensures)
+    let k = marker_starts _ g.N.Naming.lists 0 (within g.N.Naming.lists c.requires.lists) c.start_marker.result (Some d) sent c.args.part.now c.start_marker.new.seat c.requires.seat is c.start_marker.ensures.within in
+    settles_to 1 sent (core.Marker (txn 0) d) c.start_marker.new.seat c.settle_done.new.seat k (ap (λ (u : View). u.rows) c.settle_done.ensures.view)

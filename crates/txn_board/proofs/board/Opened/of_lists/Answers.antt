@@ -41,6 +41,6 @@ invariant_of-result g c =
       seat_is = e.4 ∙ ap (λ (k : List (List CoreEntry)). (opening_view k, [])) key;
       few = subst (λ (k : List (List CoreEntry)). length k ≤ 63) key c.requires.few;
       low_is = low ∙ ap low_in key;
-      fixed_says = subst (λ (k : List (List CoreEntry)). WordsSay 0 c.in_ok-fixed.low c.truncate.new.self.items (list_in k)) (same ∙ key)
-          (subst (λ ws. WordsSay 0 c.in_ok-fixed.low ws (list_in c.as_slice.result.now)) (sym c.truncate.ensures.items) (front says.0 c.in_ok-fixed.low all (list_in c.as_slice.result.now) (omega (arith, says.1)) says.2));
+      fixed_says = subst (λ (k : List (List CoreEntry)). WordsSay 0 c.in_ok-fixed.low c.shrink_to_fit.new.self.items (list_in k)) (same ∙ key)
+          (subst (λ ws. WordsSay 0 c.in_ok-fixed.low ws (list_in c.as_slice.result.now)) (sym (c.shrink_to_fit.ensures.items ∙ c.truncate.ensures.items)) (front says.0 c.in_ok-fixed.low all (list_in c.as_slice.result.now) (omega (arith, says.1)) says.2));
     }
