@@ -320,7 +320,9 @@ fn work<R: Threads + Wait + Sync, N: Naming + Send + Sync>(
     let (parts, readers) = thread::join(
         rt,
         move ||
-            requires { (N.lists ≡ [] ∷ [] ∷ []) × (count ≤ 65536) × Rests 0 [] coord × Rests 1 [] part }
+            requires lists { N.lists ≡ [] ∷ [] ∷ [] }
+            requires few { count ≤ 65536 }
+            requires rows { Rests 0 [] coord × Rests 1 [] part }
         {
             thread::join(
                 rt,
