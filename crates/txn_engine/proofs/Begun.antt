@@ -331,11 +331,6 @@ module _ (v : EngineView) (is : IsEngine v) (f g : ℕ) (fs gs : ℕ → ℕ) (l
       (new_told v (RoseFor f g fs gs) latest now timeout (reply.No no.BadTimeout) (table_of u) moment
       (row_told u v.limits (RoseFor f g fs gs) (request.New timeout) no.BadTimeout (bad_new v.limits u timeout bad)))
 
-  pub new_memory_told : MayTell f g fs gs v (request.New timeout) now (reply.No no.NoMemory) u
-  new_memory_told =
-      short_told f g fs gs v (request.New timeout) now (reply.No no.NoMemory) u refl
-      (new_told v (RoseFor f g fs gs) latest now timeout (reply.No no.NoMemory) (table_of u) moment (memory_told u v.limits (RoseFor f g fs gs) (request.New timeout)))
-
   pub new_answer : IsTrue v.coord.whole → IsTied v → is_bad_timeout timeout ≡ false → (result : Result TxnId CoordError) (c' : CoordView) → IsCoordEntry (coord.New (next_txn v.coord) (latest + timeout)) → MatchOption (begin_refusal v.coord timeout) (MayFail result) (λ x. result ≡ Err x) → IfOk result (λ x. x ≡ next_txn v.coord)
       → OnOk result (c' ≡ with_entry v.coord (coord.New (next_txn v.coord) (latest + timeout))) → (result ≡ Err coord_error.Fault → c' ≡ with_failed_entry v.coord (coord.New (next_txn v.coord) (latest + timeout))) → IfErr result (λ e. (e ≡ coord_error.Fault → ⊥) → c' ≡ v.coord)
       → CountsFaults v.coord.content.key.part f g fs gs (result ≡ Err coord_error.Fault)

@@ -246,7 +246,7 @@ module _ (v : EngineView) (is : IsEngine v) (whole : IsTrue v.coord.whole) (x : 
         by_test true still_open = ap (λ (c : CoordView). decision_of (coord_skeletons c.front) x) (e ∙ decided_open v.coord x d still_open) ∙ decision_added (length v.names) v.coord.front is.coord.lawful x d still_open
         by_test false shut = ap (λ (c : CoordView). decision_of (coord_skeletons c.front) x) (e ∙ decided_shut v.coord x d shut) ∙ decision_stood (length v.names) v.coord.front is.coord.lawful x d (no_refusal s is_ok) shut
 
-    decided_whole : IsTrue c'.whole
+    pub decided_whole : IsTrue c'.whole
     decided_whole = by_test (is_open (status_in_view v.coord x)) refl
       where
         by_test : (b : Bool) → is_open (status_in_view v.coord x) ≡ b → IsTrue c'.whole
@@ -391,6 +391,9 @@ module _ (v : EngineView) (is : IsEngine v) (w : EngineView) (view : v ≡ w) (w
 
   pub decided_clause : OnOk result (decision_of (coord_skeletons c'.front) x ≡ Some d)
   decided_clause = on_ok result (decision_of (coord_skeletons c'.front) x ≡ Some d) (λ s is_ok. decided_now v is whole_here x d fits result c' refused repeated now fault same s is_ok (grown s is_ok))
+
+  pub whole_clause : OnOk result (IsTrue c'.whole)
+  whole_clause = on_ok result (IsTrue c'.whole) (λ s is_ok. decided_whole v is whole_here x d fits result c' refused repeated now fault same s is_ok (grown s is_ok))
 
   pub ready_clause : IsReady x w → OnOk result (IsReady x (with_coord v c'))
   ready_clause ready = on_ok result (IsReady x (with_coord v c')) (λ s is_ok. ready_still v is whole_here x d fits result c' refused repeated now fault same s is_ok (grown s is_ok) (subst (IsReady x) (sym view) ready))

@@ -34,7 +34,7 @@ use Rattle.txn_engine.specs.Files.{OnlyLedgers}
 use Rattle.txn_engine.specs.Growing.{Grows, GrowsWorld}
 use Rattle.txn_engine.specs.Kept.{IsTopic, IsEngine}
 use Rattle.txn_engine.specs.Table.{world_of, table_of, coord_flight, lists_from, flights_from, unrebuilt_from}
-use Rattle.txn_engine.specs.Told.{CountsWithin, EngineGoesOn, FaultsWithin}
+use Rattle.txn_engine.specs.Told.{IsSure, CountsWithin, EngineGoesOn, FaultsWithin}
 use Rattle.txn_engine.specs.View.{EngineView, IsWhole, IsTied, IsBacked, with_coord, with_topics, replaced}
 use Rattle.txn_engine.proofs.Above.{coord_above, coord_worlds, topic_above, topic_worlds}
 use Rattle.txn_engine.proofs.Bodies.{entries_back}
@@ -137,13 +137,13 @@ module _ {D : Type 0} (on : Ghosts D) where
     goes_still X none v v' disk backed names coord topics = record {
       names = names;
       whole = inl (λ whole. record { coord = subst (λ (c : CoordView). IsTrue c.whole) (sym coord) whole.coord; topics = subst (λ (ts : List TopicView). All (λ t. IsTrue t.whole) ts) (sym topics) whole.topics });
-      tied = λ tied. record { coord = subst coordinator.IsFrontOf (sym coord) tied.coord; topics = subst (All topic.IsFrontOf) (sym topics) tied.topics };
-      lawful = λ tied. lawful_same v v' names coord topics;
+      tied = λ told tied. record { coord = subst coordinator.IsFrontOf (sym coord) tied.coord; topics = subst (All topic.IsFrontOf) (sym topics) tied.topics };
+      lawful = λ was. lawful_same v v' names coord topics was.lawful;
       backed = record {
         coord = subst (λ (c : CoordView). Stored (on.image disk) c.content) (sym coord) backed.coord;
         topics = subst (λ (ts : List TopicView). All (λ t. Stored (on.image disk) t.content) ts) (sym topics) backed.topics;
       };
-      images = started on disk (KeepsAboveIf (IsTied v × LawfulState (table_of v)) v.names) (λ c at holds floor above. above);
+      images = started on disk (KeepsAboveIf (IsSure on v) v.names) (λ c at holds floor above. above);
       grows = files_first on disk;
       worlds = worlds_first on v.names disk;
       elsewhere = started on disk (OnlyLedgers (length v.names)) (λ c at file apart. refl);
@@ -160,7 +160,7 @@ module _ {D : Type 0} (on : Ghosts D) where
     goes_from X u v v' old new names coord topics goes =
         let tied : IsTied u → IsTied v =
         λ was. record { coord = subst coordinator.IsFrontOf (sym coord) was.coord; topics = subst (All topic.IsFrontOf) (sym topics) was.topics } in
-        let lawful : LawfulState (table_of u) → LawfulState (table_of v) = lawful_same u v names coord topics in
+        let sure : IsSure on u → IsSure on v = λ was. record { told = was.told; tied = tied was.tied; lawful = lawful_same u v names coord topics was.lawful } in
         record {
           names = goes.names ∙ names;
           whole = ⊎_elim
@@ -169,11 +169,11 @@ module _ {D : Type 0} (on : Ghosts D) where
                 topics = subst (λ (ts : List TopicView). All (λ t. IsTrue t.whole) ts) (sym topics) whole.topics;
               })))
               (λ x. inr x) goes.whole;
-          tied = λ was. goes.tied (tied was);
-          lawful = λ was state. goes.lawful (tied was) (lawful state);
+          tied = λ told was. goes.tied told (tied was);
+          lawful = λ was. goes.lawful (sure was);
           backed = goes.backed;
-          images = weaker on (KeepsAboveIf (IsTied v × LawfulState (table_of v)) v.names) (KeepsAboveIf (IsTied u × LawfulState (table_of u)) u.names) old new
-              (λ d c at keeps was. subst (λ (ns : List (List ℕ)). KeepsAbove ns d c) names (keeps (tied was.0, lawful was.1))) goes.images;
+          images = weaker on (KeepsAboveIf (IsSure on v) v.names) (KeepsAboveIf (IsSure on u) u.names) old new
+              (λ d c at keeps was. subst (λ (ns : List (List ℕ)). KeepsAbove ns d c) names (keeps (sure was))) goes.images;
           grows = goes.grows;
           worlds = subst (λ (ns : List (List ℕ)). After on (GrowsWorld ns) old new) names goes.worlds;
           elsewhere = subst (λ (ns : List (List ℕ)). After on (OnlyLedgers (length ns)) old new) names goes.elsewhere;
@@ -197,20 +197,24 @@ module _ {D : Type 0} (on : Ghosts D) where
       cause = record { later = goes.cause.later; parts_later = goes.cause.parts_later; failed = λ y. goes.cause.failed (from y); others = goes.cause.others };
     }
 
+    -- what was sure stays so
+    sure_then : {X : Type 0} {u v : EngineView} {old mid : D} → EngineGoesOn on X u v old mid → IsSure on u → IsSure on v
+    sure_then one was = record { told = was.told; tied = one.tied was.told was.tied; lawful = one.lawful was }
+
     -- one call after another, the first of which met no fault
     pub goes_then : (X Y : Type 0) (u v w : EngineView) (old mid new : D) → (X → ⊥) → EngineGoesOn on X u v old mid → EngineGoesOn on Y v w mid new → EngineGoesOn on Y u w old new
     goes_then X Y u v w old mid new quiet one two = record {
       names = two.names ∙ one.names;
       whole = ⊎_elim (λ stays. inl (λ whole. stays (⊎_elim (λ first. first whole) (λ x. absurd (quiet x)) one.whole))) (λ y. inr y) two.whole;
-      tied = λ was. two.tied (one.tied was);
-      lawful = λ was state. two.lawful (one.tied was) (one.lawful was state);
+      tied = λ told was. two.tied told (one.tied told was);
+      lawful = λ was. two.lawful (sure_then one was);
       backed = two.backed;
-      images = goes_on on (KeepsAboveIf (IsTied u × LawfulState (table_of u)) u.names) (KeepsAboveIf (IsTied v × LawfulState (table_of v)) v.names) (KeepsAboveIf (IsTied u × LawfulState (table_of u)) u.names)
+      images = goes_on on (KeepsAboveIf (IsSure on u) u.names) (KeepsAboveIf (IsSure on v) v.names) (KeepsAboveIf (IsSure on u) u.names)
           old mid new one.images two.images
           (λ d c at keeps. keeps)
           (λ d e c at keeps mid_at more was floor above.
           subst (λ (ns : List (List ℕ)). StandsAbove ns floor c) one.names
-          (more (one.tied was.0, one.lawful was.0 was.1) floor (subst (λ (ns : List (List ℕ)). StandsAbove ns floor e) (sym one.names) (keeps was floor above))));
+          (more (sure_then one was) floor (subst (λ (ns : List (List ℕ)). StandsAbove ns floor e) (sym one.names) (keeps was floor above))));
       grows = files_then on old mid new one.grows two.grows;
       worlds = worlds_then on u.names old mid new one.worlds (subst (λ (ns : List (List ℕ)). After on (GrowsWorld ns) mid new) one.names two.worlds);
       elsewhere = images_then on (length u.names) old mid new one.elsewhere
@@ -231,15 +235,15 @@ module _ {D : Type 0} (on : Ghosts D) where
           record {
             names = names;
             whole = ⊎_elim (λ yes. inl (λ whole. record { coord = yes; topics = subst (λ (ts : List TopicView). All (λ t. IsTrue t.whole) ts) (sym topics) whole.topics })) (λ x. inr x) now;
-            tied = λ was. record { coord = tied was.coord; topics = subst (All topic.IsFrontOf) (sym topics) was.topics };
-            lawful = λ was state. moved_lawful (in_coord e) 0 (table_of v) (table_of v') refl tt (ap not one_whole) state (allowed was state.lawful) table;
+            tied = λ told was. record { coord = tied was.coord; topics = subst (All topic.IsFrontOf) (sym topics) was.topics };
+            lawful = λ was. moved_lawful (in_coord e) 0 (table_of v) (table_of v') refl tt (ap not one_whole) was.lawful (allowed was.tied was.lawful.lawful) table;
             backed = record {
               coord = coord_here;
               topics = subst (λ (ts : List TopicView). All (λ t. Stored (on.image new) t.content) ts) (sym topics)
                   (other_topics (Stored (on.image old)) (Stored (on.image new)) 0 (still_backed 0 v.coord.content (coord_batch e) is.coord.key old new since) v.limits 1 v.topics (omega arith) is.topics backed.topics);
             };
-            images = weaker on (Appends IsFile StandsIn v.coord.content (coord_batch e)) (KeepsAboveIf (IsTied v × LawfulState (table_of v)) v.names) old new
-                (λ d c at step was. coord_above v is (on.image old) backed e fits rests d c at step (failed_coord v is e) (allowed was.0 was.1.lawful) was.1) since;
+            images = weaker on (Appends IsFile StandsIn v.coord.content (coord_batch e)) (KeepsAboveIf (IsSure on v) v.names) old new
+                (λ d c at step was. coord_above v is (on.image old) backed e fits rests d c at step (failed_coord v is e) (allowed was.tied was.lawful.lawful) was.lawful) since;
             grows = weaker on (Appends IsFile StandsIn v.coord.content (coord_batch e)) Grows old new
                 (λ d c at step. appended_grows v.coord.content (coord_batch e) d c (settled_stands StandsIn ExactlyIn (on.image old) v.coord.content rests backed.coord d at) step) since;
             worlds = weaker on (Appends IsFile StandsIn v.coord.content (coord_batch e)) (GrowsWorld v.names) old new
@@ -270,20 +274,20 @@ module _ {D : Type 0} (on : Ghosts D) where
                 coord = subst (λ (c : CoordView). IsTrue c.whole) (sym coord) whole.coord;
                 topics = subst (λ (ts : List TopicView). All (λ t. IsTrue t.whole) ts) (sym topics) (all_replaced (λ t. IsTrue t.whole) v.topics j t yes whole.topics);
               })) (λ x. inr x) now;
-              tied = λ was. record {
+              tied = λ told was. record {
                 coord = subst coordinator.IsFrontOf (sym coord) was.coord;
                 topics = subst (All topic.IsFrontOf) (sym topics) (all_replaced topic.IsFrontOf v.topics j t (tied (at_index topic.IsFrontOf v.topics j (some_topic v) below was.topics)) was.topics);
               };
-              lawful = λ was state.
-                  moved_lawful (in_topic (1 + j) es) (1 + j) (table_of v) (table_of v') refl (topic_part v is j below) (topic_rebuilt v j (some_topic v) below one_whole (coord_entries v.coord.content.batches) (coord_flight v.coord.content.standing) (not v.coord.whole) (1 + j) refl) state (allowed was state.lawful) table;
+              lawful = λ was.
+                  moved_lawful (in_topic (1 + j) es) (1 + j) (table_of v) (table_of v') refl (topic_part v is j below) (topic_rebuilt v j (some_topic v) below one_whole (coord_entries v.coord.content.batches) (coord_flight v.coord.content.standing) (not v.coord.whole) (1 + j) refl) was.lawful (allowed was.tied was.lawful.lawful) table;
               backed = record {
                 coord = subst (λ (c : CoordView). Stored (on.image new) c.content) (sym coord)
                     (other_coord (Stored (on.image old)) (Stored (on.image new)) (1 + j) still (omega arith) v.coord.content is.coord.key backed.coord);
                 topics = subst (λ (ts : List TopicView). All (λ t. Stored (on.image new) t.content) ts) (sym topics)
                     (other_topics_but (Stored (on.image old)) (Stored (on.image new)) (1 + j) still v.limits 1 j v.topics t refl here is.topics backed.topics);
               };
-              images = weaker on (Appends IsFile StandsIn at.content (topic_batch es)) (KeepsAboveIf (IsTied v × LawfulState (table_of v)) v.names) old new
-                  (λ d c from step was. topic_above v is (on.image old) backed j below es each rests d c from step (failed_at v is j below es) (allowed was.0 was.1.lawful) was.1) since;
+              images = weaker on (Appends IsFile StandsIn at.content (topic_batch es)) (KeepsAboveIf (IsSure on v) v.names) old new
+                  (λ d c from step was. topic_above v is (on.image old) backed j below es each rests d c from step (failed_at v is j below es) (allowed was.tied was.lawful.lawful) was.lawful) since;
               grows = weaker on (Appends IsFile StandsIn at.content (topic_batch es)) Grows old new
                   (λ d c from step. appended_grows at.content (topic_batch es) d c
                   (settled_stands StandsIn ExactlyIn (on.image old) at.content rests (at_index (λ t. Stored (on.image old) t.content) v.topics j (some_topic v) below backed.topics) d from) step) since;

@@ -10,6 +10,8 @@ pub mod Above
 pub mod Left
 pub mod Files
 pub mod Going
+pub mod Recovered
+pub mod Recovering
 pub mod Rows
 pub mod TopicRows
 pub mod Bodies

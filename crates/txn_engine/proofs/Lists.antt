@@ -46,10 +46,10 @@ topics_replaced limits k (u ∷ us) (suc i) t p e is are = (are.0, topics_replac
 
 -- ---- Tests of numbers.
 
-here : (k p : ℕ) → p ≡ k + 0 → (k == p) ≡ true
+pub here : (k p : ℕ) → p ≡ k + 0 → (k == p) ≡ true
 here k p e = grind (arith, nat_tests, e)
 
-past : (k i p : ℕ) → p ≡ k + suc i → (k == p) ≡ false
+pub past : (k i p : ℕ) → p ≡ k + suc i → (k == p) ≡ false
 past k i p e = grind (arith, nat_tests, e)
 
 -- ---- What the ledgers hold.

@@ -114,10 +114,6 @@ abbrev pub table_for : EngineView → Option TxnId → TableState
 table_for v who = table_by v (log_for v who) (flight_for v who) (lost_for v who)
 
 module _ (v : EngineView) (is : IsEngine v) (tied : IsTied v) where
-  pub world_for_is : (who : Option TxnId) → UsesLog v who → world_of v ≡ world_for v who
-  world_for_is None whole = refl
-  world_for_is (Some x) whole = world_is v is whole tied
-
   pub table_for_is : (who : Option TxnId) → UsesLog v who → table_of v ≡ table_for v who
   table_for_is None whole = refl
   table_for_is (Some x) whole = table_is v is whole tied

@@ -58,7 +58,7 @@ past_at v w e n at is h = subst (λ (z : EngineView). length z.topics ≤ at) e 
 -- ---- The loop.
 
 -- From v to u, over these disks, the parts of x up to the index have their marker, and no other has one more.
-pub record MarksUpTo {D : Type 0} (on : Ghosts D) (tells : Type 0) (x : TxnId) (d : Decision) (v u : EngineView) (old now : D) (at : ℕ) : Type 0 where
+pub record MarksUpTo {D : Type 0} (on : Ghosts D) (x : TxnId) (d : Decision) (v u : EngineView) (old now : D) (at : ℕ) : Type 0 where
   pub within : at ≤ length u.topics
   pub count : length u.topics ≡ length v.topics
   pub few : length v.topics ≤ 62
@@ -67,12 +67,12 @@ pub record MarksUpTo {D : Type 0} (on : Ghosts D) (tells : Type 0) (x : TxnId) (
   pub whole : IsWhole u
   pub ready : (j : ℕ) (t : TopicView) → at ≤ j → j < length u.topics → in_parts (coord_skeletons v.coord.front) x (1 + j) ≡ true → (slice_index_or u.topics j t).reserved ≡ 1
   pub given : AreMarked x u at
-  pub marking : tells → IsTied v → Marking x d (parts_of (coord_skeletons v.coord.front) x) (parts_past (coord_skeletons v.coord.front) x at) (table_of v) (table_of u)
+  pub marking : on.tells → IsTied v → Marking x d (parts_of (coord_skeletons v.coord.front) x) (parts_past (coord_skeletons v.coord.front) x at) (table_of v) (table_of u)
   pub goes : EngineGoesOn on ⊥ v u old now
 
-module _ {D : Type 0} (on : Ghosts D) (tells : Type 0) (x : TxnId) (d : Decision) where
+module _ {D : Type 0} (on : Ghosts D) (x : TxnId) (d : Decision) where
   abbrev UpTo : EngineView → EngineView → D → D → ℕ → Type 0
-  UpTo v u old now at = MarksUpTo on tells x d v u old now at
+  UpTo v u old now at = MarksUpTo on x d v u old now at
 
   pub loop_starts : (v : EngineView) (old : D) → IsEngine v → IsWhole v → AreReady x v (length v.topics) → IsBacked (on.image old) v → UpTo v v old old 0
   loop_starts v old is whole ready backed = record {
@@ -142,7 +142,7 @@ module _ {D : Type 0} (on : Ghosts D) (tells : Type 0) (x : TxnId) (d : Decision
           self k = omega arith
 
       module _ (w : EngineView) (new : D) (r : Result (Unit {0}) Failed) (elsewhere : IsElsewhere at u w) (goes : EngineGoesOn on (IsErr r) u w now new) where
-        pub loop_marks : IsOk r → (tells → IsTied u → OnOk r (table_of w ≡ marked x d (1 + at) (table_of u))) → OnOk r (IsMarked x w at) → UpTo v w old new (at + 1)
+        pub loop_marks : IsOk r → (on.tells → IsTied u → OnOk r (table_of w ≡ marked x d (1 + at) (table_of u))) → OnOk r (IsMarked x w at) → UpTo v w old new (at + 1)
         loop_marks is_ok ok stands = record {
           within = omega (arith, below, elsewhere.count);
           count = elsewhere.count ∙ so.count;
@@ -155,7 +155,7 @@ module _ {D : Type 0} (on : Ghosts D) (tells : Type 0) (x : TxnId) (d : Decision
           given = λ j before within in_it. given_by j (j == at) refl before within in_it;
           marking = λ told tied.
               marking_more x d (parts_of log x) (1 + at) (parts_past log x at) (parts_past log x (at + 1)) (table_of v) (table_of u) (table_of w) (so.marking told tied) (rest_has log x at has few_here)
-              (one_stays (table_of u) (1 + at) (not_unrebuilt u so.whole (1 + at))) (from_is_ok (ok told (so.goes.tied tied)));
+              (one_stays (table_of u) (1 + at) (not_unrebuilt u so.whole (1 + at))) (from_is_ok (ok told (so.goes.tied told tied)));
           goes = goes_like on (IsErr r) ⊥ v w old new (λ err. no_err err) (λ e. absurd e) (goes_then on ⊥ (IsErr r) v u w old now new (λ e. e) so.goes goes);
         }
           where
@@ -202,11 +202,11 @@ module _ {D : Type 0} (on : Ghosts D) (tells : Type 0) (x : TxnId) (d : Decision
                 }
 
         -- its append failed
-        pub loop_stops : IsErr r → (tells → IsTied u → OnErr r ((is_none (marker_of (part_skeletons (table_of u).world (1 + at)) x) ≡ true) × (table_of w ≡ with_failed_batch (marker_batch (table_of u) x d (1 + at)) (1 + at) (table_of u))))
-            → OnErr r (RoseIn on now new (1 + at)) → tells → IsTied v
+        pub loop_stops : IsErr r → (on.tells → IsTied u → OnErr r ((is_none (marker_of (part_skeletons (table_of u).world (1 + at)) x) ≡ true) × (table_of w ≡ with_failed_batch (marker_batch (table_of u) x d (1 + at)) (1 + at) (table_of u))))
+            → OnErr r (RoseIn on now new (1 + at)) → on.tells → IsTied v
             → StopsWithin (RoseIn on old new) x d (parts_of log x) (1 + at) (table_of v) why.Fault (table_of w)
         loop_stops is_err err rose told tied =
-            let failed = from_ok_err r ((is_none (marker_of (part_skeletons (table_of u).world (1 + at)) x) ≡ true) × (table_of w ≡ with_failed_batch (marker_batch (table_of u) x d (1 + at)) (1 + at) (table_of u))) is_err (err told (so.goes.tied tied)) in
+            let failed = from_ok_err r ((is_none (marker_of (part_skeletons (table_of u).world (1 + at)) x) ≡ true) × (table_of w ≡ with_failed_batch (marker_batch (table_of u) x d (1 + at)) (1 + at) (table_of u))) is_err (err told (so.goes.tied told tied)) in
             let grew = from_ok_err r (RoseIn on now new (1 + at)) is_err rose in
             marking_stops x d (parts_of log x) (RoseIn on old new) (1 + at) (parts_past log x at) (parts_past log x (at + 1)) (table_of v) (table_of u) why.Fault (table_of w) (so.marking told tied) (rest_has log x at has few_here)
             (marker_fault (table_of u) (one_stays (table_of u) (1 + at) (not_unrebuilt u so.whole (1 + at))) failed.0
@@ -223,7 +223,7 @@ module _ {D : Type 0} (on : Ghosts D) (tells : Type 0) (x : TxnId) (d : Decision
   loop_given v u old now at so past j before = so.given j (omega (arith, before, past))
 
   -- all have it
-  pub loop_ends : (v u : EngineView) (old now : D) (at n : ℕ) → UpTo v u old now at → CoordLawful n (coord_skeletons v.coord.front) → n ≡ length v.topics → length u.topics ≤ at → tells → IsTied v → MarksAll x d (parts_of (coord_skeletons v.coord.front) x) (table_of v) (table_of u)
+  pub loop_ends : (v u : EngineView) (old now : D) (at n : ℕ) → UpTo v u old now at → CoordLawful n (coord_skeletons v.coord.front) → n ≡ length v.topics → length u.topics ≤ at → on.tells → IsTied v → MarksAll x d (parts_of (coord_skeletons v.coord.front) x) (table_of v) (table_of u)
   loop_ends v u old now at n so lawful same past told tied =
       marking_ends x d (parts_of (coord_skeletons v.coord.front) x) (parts_past (coord_skeletons v.coord.front) x at) (table_of v) (table_of u) (so.marking told tied)
       (rest_ends (coord_skeletons v.coord.front) x n at lawful (omega (arith, same, so.count, past)))

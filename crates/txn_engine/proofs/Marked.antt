@@ -43,13 +43,6 @@ at_replaced [] j t d h = absurd (never_below j h)
 at_replaced (u ∷ us) zero t d h = refl
 at_replaced (u ∷ us) (suc j) t d h = at_replaced us j t d (omega (arith, h))
 
-pub past_replaced : (ts : List TopicView) (i j : ℕ) (t d : TopicView) → (i ≡ j → ⊥) → get_or (replaced ts j t) i d ≡ get_or ts i d
-past_replaced [] i j t d apart = refl
-past_replaced (u ∷ us) zero zero t d apart = absurd (apart refl)
-past_replaced (u ∷ us) zero (suc j) t d apart = refl
-past_replaced (u ∷ us) (suc i) zero t d apart = refl
-past_replaced (u ∷ us) (suc i) (suc j) t d apart = past_replaced us i j t d (λ e. apart (ap suc e))
-
 ok_no_err : (r : Result (Unit {0}) Failed) → IsOk r → IsErr r → ⊥
 ok_no_err (Ok a) ok err = cc
 ok_no_err (Err e) ok err = cc

@@ -58,9 +58,6 @@ keeps_all key d c is file = ⊎_elim
     (λ apart. subst (KeepsFile (d file)) (sym (is.others file apart)) (keeps_itself (d file)))
     (same_or_not file key)
 
-pub same_file_stands : (c : Files) (key file : FileId) (batches : List Batch) → key ≡ file → Stands (c key) batches → Stands (c file) batches
-same_file_stands c key file batches e h = subst (λ (f : FileId). Stands (c f) batches) e h
-
 pub others_then : (key file : FileId) (a b c : Files) → key ≡ file → Elsewhere file a b → ((other : FileId) → (IsFile key other → ⊥) → c other ≡ b other) → Elsewhere file a c
 others_then key file a b c e one two other ne = two other (λ same. ne (same ∙ e)) ∙ one other ne
 
@@ -81,9 +78,6 @@ damaged_then before mid after one two file entry damaged =
     two file entry (subst (λ (bytes : List ℕ). IsDamagedAt bytes entry) (sym first) damaged) ∙ first
 
 -- ---- A file keeps its list through a step of a replay with nothing in flight.
-
-pub stands_here : (P : List Batch → Type 0) (batches : List Batch) (s : Standing) → s ≡ settled → KeptOrNot P batches s → P batches
-stands_here P batches s is here = subst (KeptOrNot P batches) is here
 
 module _ {D : Type 0} (on : Ghosts D) where
   pub mended_keeps : (key : FileId) (content : LedgerContent) (old mid new : D) → content.key ≡ key → content.standing ≡ settled → Stored (on.image mid) content

@@ -50,9 +50,6 @@ abbrev pub parts_past : List CoreEntry → TxnId → ℕ → List ℕ
 parts_past c x n = filter (in_parts c x) (numbers_from (1 + n) (62 - n))
 
 module _ (c : List CoreEntry) (x : TxnId) where
-  pub all_parts : parts_past c x 0 ≡ parts_of c x
-  all_parts = refl
-
   step_by : (n : ℕ) (b : Bool) → in_parts c x (1 + n) ≡ b → n < 62 → parts_past c x n ≡ cond b ((1 + n) ∷ parts_past c x (n + 1)) (parts_past c x (n + 1))
   step_by n b e few =
       ap (λ (m : ℕ). filter (in_parts c x) (numbers_from (1 + n) m)) (left n few)

@@ -239,9 +239,6 @@ module _ (v : EngineView) (is : IsEngine v) (topic : List ℕ) (who : Option Txn
   pub adds : (success_of v.limits (table_for v who) to).adds ≡ in_topic (1 + (p - 1)) es
   adds = ap (λ (q : ℕ). in_topic q es) (number_is v topic p (p - 1) known_at)
 
-  pub after_engine : (t' : TopicView) (result : Result ℕ TopicError) → IsAfter t t' es result → IsEngine (after t')
-  after_engine t' result is_after = engine_topics v is (p - 1) t' (after_topic v.limits (1 + (p - 1)) t t' es result is_after one t_whole)
-
   module _ (tied : IsTied v) where
     late_free : late_refusal v.limits (table_for v who) to ≡ option_map (λ (n : ℕ). no.Full Log n) (full_log v.limits (length t.front) (length bodies))
     late_free =

@@ -19,7 +19,6 @@ use Rattle.txn_base.specs.Disk.{Files, Same}
 use Rattle.txn_base.specs.Outside.{Rose}
 use Rattle.txn_base.proofs.Laws.{weaker, same_backed}
 use Rattle.txn_ledger.specs.Ledger.{StandsIn, ExactlyIn, Stored}
-use Rattle.txn_model.specs.Allowed.{LawfulState}
 use Rattle.txn_model.specs.Answers.{Answers}
 use Rattle.txn_model.specs.Names.{part_of}
 use Rattle.txn_model.specs.Sound.{ledger_file}
@@ -29,7 +28,7 @@ use Rattle.txn_wire.specs.Short.{IsPartName}
 use Rattle.txn_engine.specs.Above.{StandsAbove, KeepsAboveIf}
 use Rattle.txn_engine.specs.Kept.{IsTopic, IsEngine}
 use Rattle.txn_engine.specs.Table.{table_of}
-use Rattle.txn_engine.specs.Told.{MayTell, RoseFor, EngineGoesOn}
+use Rattle.txn_engine.specs.Told.{IsSure, MayTell, RoseFor, EngineGoesOn}
 use Rattle.txn_engine.specs.View.{EngineView, IsTied, IsBacked, IsWholeAt, IsWholeTopic}
 use Rattle.txn_engine.proofs.Begun.{short_told, row_told, memory_told}
 use Rattle.txn_engine.proofs.Files.{only_none, images_same}
@@ -124,10 +123,10 @@ module _ {D : Type 0} (on : Ghosts D) (old new : D) (since : After on Same old n
       record {
         names = refl;
         whole = inl (λ whole. whole);
-        tied = λ was. was;
-        lawful = λ was state. state;
+        tied = λ told was. was;
+        lawful = λ was. was.lawful;
         backed = record { coord = same_backed StandsIn ExactlyIn on old new v.coord.content since backed.coord; topics = topics_same_backed v.topics backed.topics };
-        images = weaker on Same (KeepsAboveIf (IsTied v × LawfulState (table_of v)) v.names) old new (λ d c here same was floor above. subst (StandsAbove v.names floor) (sym same) above) since;
+        images = weaker on Same (KeepsAboveIf (IsSure on v) v.names) old new (λ d c here same was floor above. subst (StandsAbove v.names floor) (sym same) above) since;
         grows = files_same on old new since;
         worlds = worlds_same on v.names old new since;
         elsewhere = images_same on (length v.names) old new since;

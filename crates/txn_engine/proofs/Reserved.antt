@@ -92,38 +92,3 @@ module _ (x : TxnId) (v : EngineView) where
 
   pub reserves_at : (u u' : EngineView) (at : ℕ) → u' ≡ u → ReservesUpTo x v u at → ReservesUpTo x v u' at
   reserves_at u u' at e so = subst (λ (z : EngineView). ReservesUpTo x v z at) (sym e) so
-
-  -- the close at last
-  module _ {E : Type 0} (u z : EngineView) (view : u ≡ z) (at : ℕ) (so : ReservesUpTo x v z at) (past : length z.topics ≤ at) (c' : CoordView) (r : Result (Unit {0}) E) (ok : OnOk r (c' ≡ reserving 1 u.coord)) (err : OnErr r (c' ≡ u.coord)) where
-    coord_by : IsSameBut u (with_coord u c')
-    coord_by =
-        by_result r (IsSameBut u (with_coord u c')) (λ a is_ok. with_close 1 (from_ok r (c' ≡ reserving 1 u.coord) a is_ok ok)) (λ e is_err. with_close u.coord.reserved (subst (λ (y : Result (Unit {0}) E). OnErr y (c' ≡ u.coord)) is_err err))
-      where
-        with_close : (n : ℕ) → c' ≡ reserving n u.coord → IsSameBut u (with_coord u c')
-        with_close n e = record {
-          names = refl;
-          latest = refl;
-          limits = refl;
-          coord = e ∙ ap (λ (k : ℕ). reserving k u.coord) (sym (ap (λ (c : CoordView). c.reserved) e));
-          topics = topics_same u.topics;
-        }
-
-    so_here : ReservesUpTo x v u at
-    so_here = subst (λ (y : EngineView). ReservesUpTo x v y at) (sym view) so
-
-    pub close_same : IsSameBut v (with_coord u c')
-    close_same = same_then v u (with_coord u c') so_here.same coord_by
-
-    pub close_engine : IsEngine u → IsEngine (with_coord u c')
-    close_engine is = same_engine u (with_coord u c') coord_by is
-
-    pub close_ready : OnOk r (IsReady x (with_coord u c'))
-    close_ready = on_ok r (IsReady x (with_coord u c')) (λ a is_ok.
-        let e = from_ok r (c' ≡ reserving 1 u.coord) a is_ok ok in
-        record {
-          coord = ap (λ (c : CoordView). c.reserved) e;
-          topics = λ j t below within in_it. so_here.ready j t (before j (subst (λ (y : EngineView). j < length y.topics) view within) past) within (ap (λ (c : CoordView). in_parts (coord_skeletons c.front) x (1 + j)) (sym e) ∙ in_it);
-        })
-      where
-        before : (j : ℕ) {n : ℕ} → j < n → n ≤ at → j < at
-        before j h k = omega (arith, h, k)

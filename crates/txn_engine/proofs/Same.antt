@@ -30,7 +30,7 @@ use Rattle.txn_engine.specs.Ending.{AreSameTopics, IsSameBut}
 use Rattle.txn_engine.specs.Files.{OnlyLedgers}
 use Rattle.txn_engine.specs.Kept.{IsCoordinator, IsTopic, AreTopics, IsEngine}
 use Rattle.txn_engine.specs.Table.{coord_flight, topic_flight, lists_from, flights_from, unrebuilt_from, table_of}
-use Rattle.txn_engine.specs.Told.{MayTell, RoseFor, EngineGoesOn}
+use Rattle.txn_engine.specs.Told.{IsSure, MayTell, RoseFor, EngineGoesOn}
 use Rattle.txn_engine.specs.View.{EngineView, IsWhole, IsTied, IsBacked, replaced}
 use Rattle.txn_engine.proofs.Coordinators.{reserving_is}
 use Rattle.txn_engine.proofs.Going.{counts_still}
@@ -168,10 +168,10 @@ module _ {D : Type 0} (on : Ghosts D) where
   goes_same X none v v' disk backed same = record {
     names = same.names;
     whole = inl (same_whole v v' same);
-    tied = same_tied v v' same;
-    lawful = λ tied state. subst LawfulState (sym (same_table v v' same)) state;
+    tied = λ told. same_tied v v' same;
+    lawful = λ was. subst LawfulState (sym (same_table v v' same)) was.lawful;
     backed = same_backed v v' same (on.image disk) backed;
-    images = started on disk (KeepsAboveIf (IsTied v × LawfulState (table_of v)) v.names) (λ c at holds floor above. above);
+    images = started on disk (KeepsAboveIf (IsSure on v) v.names) (λ c at holds floor above. above);
     grows = files_first on disk;
     worlds = worlds_first on v.names disk;
     elsewhere = started on disk (OnlyLedgers (length v.names)) (λ c at file apart. refl);

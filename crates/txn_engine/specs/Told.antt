@@ -60,18 +60,24 @@ abbrev pub FaultsWithin : {D : Type 0} → Ghosts D → ℕ → D → D → Type
 FaultsWithin disk n old new is_fault =
     CountsWithin n (disk.faults old) (disk.faults new) (disk.part_faults old) (disk.part_faults new) is_fault
 
--- From v to v', over these disks: where all was rebuilt it stays so, or a fault is told; what is rebuilt stays tied to the
--- ledgers, and they to each image; a state of the table that is lawful stays so, and then whatever world each image at the
--- call extends soundly, the images since do, each above what one at the call extended; lawful or not, what files stand for
--- only grows, list by list and world by world; and no file but the ledgers of the engine changes, as it reads and in each
--- image.
+-- The disk tells what it holds; what was rebuilt is what the ledgers hold; and the state of the table is lawful.
+pub record IsSure {D : Type 0} (disk : Ghosts D) (v : EngineView) : Type 0 where
+  pub told : disk.tells
+  pub tied : IsTied v
+  pub lawful : LawfulState (table_of v)
+
+-- From v to v', over these disks: where all was rebuilt it stays so, or a fault is told; on a disk that tells, what is rebuilt
+-- stays tied to the ledgers; the ledgers stay backed by each image; a state of the table that is lawful stays so, and then
+-- whatever world each image at the call extends soundly, the images since do, each above what one at the call extended; lawful
+-- or not, what files stand for only grows, list by list and world by world; and no file but the ledgers of the engine changes,
+-- as it reads and in each image.
 pub record EngineGoesOn {D : Type 0} (disk : Ghosts D) (is_fault : Type 0) (v v' : EngineView) (old new : D) : Type 0 where
   pub names : v'.names ≡ v.names
   pub whole : (IsWhole v → IsWhole v') ⊎ is_fault
-  pub tied : IsTied v → IsTied v'
-  pub lawful : IsTied v → LawfulState (table_of v) → LawfulState (table_of v')
+  pub tied : disk.tells → IsTied v → IsTied v'
+  pub lawful : IsSure disk v → LawfulState (table_of v')
   pub backed : IsBacked (disk.image new) v'
-  pub images : After disk (KeepsAboveIf (IsTied v × LawfulState (table_of v)) v.names) old new
+  pub images : After disk (KeepsAboveIf (IsSure disk v) v.names) old new
   pub grows : After disk Grows old new
   pub worlds : After disk (GrowsWorld v.names) old new
   pub elsewhere : After disk (OnlyLedgers (length v.names)) old new

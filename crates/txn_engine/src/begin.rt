@@ -26,13 +26,17 @@ impl Engine {
     pub(crate) fn begin<D: Disk>(&mut self, disk: &mut D, now: u64, timeout: u64) -> Reply
         requires whole { IsTrue self.old.coord.whole }
         requires backed { IsBacked (D.image disk.old) self.old }
-        ensures told { D.tells → IsTied self.old → MayTellOn D.Disk disk.old disk.new self.old (request.New timeout) now result self.new }
+        ensures told { D.tells → IsTied self.old →
+            MayTellOn D.Disk disk.old disk.new self.old (request.New timeout) now result self.new }
         ensures tellable { IsTellable result }
-        ensures early { TellsEarly self.old.limits (world_of self.old) (request.New timeout) result }
+        ensures early { TellsEarly self.old.limits (world_of self.old)
+            (request.New timeout) result }
         ensures undamaged { is_damage result ≡ false }
-        ensures named { IfSome (fault_name result) (RoseByName self.old.names (RoseIn D.Disk disk.old disk.new)) }
+        ensures named { IfSome (fault_name result)
+            (RoseByName self.old.names (RoseIn D.Disk disk.old disk.new)) }
         ensures limits { self.new.limits ≡ self.old.limits }
-        ensures goes { EngineGoesOn D.Disk (is_fault result ≡ true) self.old self.new disk.old disk.new }
+        ensures goes { EngineGoesOn D.Disk
+            (is_fault result ≡ true) self.old self.new disk.old disk.new }
     {
         self.latest = self.latest.max(now.min(LAST));
         if is_bad_timeout(timeout) {
@@ -51,13 +55,18 @@ impl Engine {
     pub(crate) fn add<D: Disk>(&mut self, disk: &mut D, txn: TxnId, part: &Text) -> Reply
         requires whole { IsTrue self.old.coord.whole }
         requires backed { IsBacked (D.image disk.old) self.old }
-        ensures told { D.tells → IsTied self.old → (now : ℕ) → MayTellOn D.Disk disk.old disk.new self.old (request.Add txn part.now) now result self.new }
+        ensures told { D.tells → IsTied self.old → (now : ℕ) →
+            MayTellOn D.Disk disk.old disk.new self.old
+            (request.Add txn part.now) now result self.new }
         ensures tellable { IsTellable result }
-        ensures early { TellsEarly self.old.limits (world_of self.old) (request.Add txn part.now) result }
+        ensures early { TellsEarly self.old.limits (world_of self.old)
+            (request.Add txn part.now) result }
         ensures undamaged { is_damage result ≡ false }
-        ensures named { IfSome (fault_name result) (RoseByName self.old.names (RoseIn D.Disk disk.old disk.new)) }
+        ensures named { IfSome (fault_name result)
+            (RoseByName self.old.names (RoseIn D.Disk disk.old disk.new)) }
         ensures limits { self.new.limits ≡ self.old.limits }
-        ensures goes { EngineGoesOn D.Disk (is_fault result ≡ true) self.old self.new disk.old disk.new }
+        ensures goes { EngineGoesOn D.Disk
+            (is_fault result ≡ true) self.old self.new disk.old disk.new }
     {
         let Some(number) = part_of(&self.names, part) else {
             return unknown_part(part);
@@ -75,7 +84,9 @@ impl Engine {
     /// How far a transaction is.
     pub(crate) fn status(&self, txn: TxnId) -> Reply
         requires whole { IsTrue self.now.coord.whole }
-        ensures told { (before now : ℕ) (parts_before parts_now : ℕ → ℕ) → IsTied self.now → (moment : ℕ) → MayTell before now parts_before parts_now self.now (request.Status txn) moment result self.now }
+        ensures told { (before now : ℕ) (parts_before parts_now : ℕ → ℕ) → IsTied self.now →
+            (moment : ℕ) → MayTell before now parts_before parts_now self.now
+            (request.Status txn) moment result self.now }
         ensures tellable { IsTellable result }
         ensures early { TellsEarly self.now.limits (world_of self.now) (request.Status txn) result }
         ensures undamaged { is_damage result ≡ false }

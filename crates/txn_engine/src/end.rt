@@ -47,13 +47,18 @@ impl Engine {
     pub(crate) fn end<D: Disk>(&mut self, disk: &mut D, txn: TxnId, decision: Decision) -> Reply
         requires whole { IsWhole self.old }
         requires backed { IsBacked (D.image disk.old) self.old }
-        ensures told { D.tells → IsTied self.old → (now : ℕ) → MayTellOn D.Disk disk.old disk.new self.old (end_request decision txn) now result self.new }
+        ensures told { D.tells → IsTied self.old → (now : ℕ) →
+            MayTellOn D.Disk disk.old disk.new self.old
+            (end_request decision txn) now result self.new }
         ensures tellable { IsTellable result }
-        ensures early { TellsEarly self.old.limits (world_of self.old) (end_request decision txn) result }
+        ensures early { TellsEarly self.old.limits (world_of self.old)
+            (end_request decision txn) result }
         ensures undamaged { is_damage result ≡ false }
-        ensures named { IfSome (fault_name result) (RoseByName self.old.names (RoseIn D.Disk disk.old disk.new)) }
+        ensures named { IfSome (fault_name result)
+            (RoseByName self.old.names (RoseIn D.Disk disk.old disk.new)) }
         ensures limits { self.new.limits ≡ self.old.limits }
-        ensures goes { EngineGoesOn D.Disk (is_fault result ≡ true) self.old self.new disk.old disk.new }
+        ensures goes { EngineGoesOn D.Disk
+            (is_fault result ≡ true) self.old self.new disk.old disk.new }
     {
         if txn.most != 0 {
             return Reply::No(Refusal::UnknownCoordinator { number: txn.most });
@@ -80,12 +85,16 @@ impl Engine {
         requires ready { IsReady txn self.old }
         requires whole { IsWhole self.old }
         requires backed { IsBacked (D.image disk.old) self.old }
-        ensures told { D.tells → IsTied self.old → (now : ℕ) → MayTellOn D.Disk disk.old disk.new self.old (end_request decision txn) now result self.new }
+        ensures told { D.tells → IsTied self.old → (now : ℕ) →
+            MayTellOn D.Disk disk.old disk.new self.old
+            (end_request decision txn) now result self.new }
         ensures tellable { IsTellable result }
         ensures undamaged { is_damage result ≡ false }
-        ensures named { IfSome (fault_name result) (RoseByName self.old.names (RoseIn D.Disk disk.old disk.new)) }
+        ensures named { IfSome (fault_name result)
+            (RoseByName self.old.names (RoseIn D.Disk disk.old disk.new)) }
         ensures limits { self.new.limits ≡ self.old.limits }
-        ensures goes { EngineGoesOn D.Disk (is_fault result ≡ true) self.old self.new disk.old disk.new }
+        ensures goes { EngineGoesOn D.Disk
+            (is_fault result ≡ true) self.old self.new disk.old disk.new }
     {
         match self.decide(disk, txn, decision) {
             Ok(_) => Reply::Ended {
@@ -106,14 +115,23 @@ impl Engine {
         requires own { txn.most ≡ 0 }
         requires whole { IsTrue self.old.coord.whole }
         requires backed { IsBacked (D.image disk.old) self.old }
-        ensures refused { D.tells → IsTied self.old → IfErr result (λ e. (now : ℕ) → MayTellOn D.Disk disk.old disk.new self.old (end_request decision txn) now (reply.No (coord_refusal e)) self.new) }
-        ensures granted { D.tells → IsTied self.old → OnOk result (IsGranted self.old.limits (table_of self.old) (end_request decision txn)) }
-        ensures settled { D.tells → IsTied self.old → OnOk result (table_of self.new ≡ with_batch (decision_batch (table_of self.old) txn decision) (table_of self.old)) }
+        ensures refused { D.tells → IsTied self.old →
+            IfErr result (λ e. (now : ℕ) →
+            MayTellOn D.Disk disk.old disk.new self.old (end_request decision txn) now
+            (reply.No (coord_refusal e)) self.new) }
+        ensures granted { D.tells → IsTied self.old →
+            OnOk result (IsGranted self.old.limits (table_of self.old) (end_request decision txn)) }
+        ensures settled { D.tells → IsTied self.old →
+            OnOk result (table_of self.new ≡ with_batch
+            (decision_batch (table_of self.old) txn decision) (table_of self.old)) }
         ensures rose { result ≡ Err CoordError.Fault → RoseIn D.Disk disk.old disk.new 0 }
-        ensures decided { OnOk result (decision_of (coord_skeletons self.new.coord.front) txn ≡ Some decision) }
+        ensures decided { OnOk result (decision_of
+            (coord_skeletons self.new.coord.front) txn ≡ Some decision) }
+        ensures whole { OnOk result (IsTrue self.new.coord.whole) }
         ensures ready { IsReady txn self.old → OnOk result (IsReady txn self.new) }
         ensures limits { self.new.limits ≡ self.old.limits }
-        ensures goes { EngineGoesOn D.Disk (result ≡ Err CoordError.Fault) self.old self.new disk.old disk.new }
+        ensures goes { EngineGoesOn D.Disk
+            (result ≡ Err CoordError.Fault) self.old self.new disk.old disk.new }
     {
         self.coordinator.decide(disk, txn, decision)
     }
@@ -131,11 +149,15 @@ impl Engine {
         requires ready { IsReady txn self.old }
         requires whole { IsWhole self.old }
         requires backed { IsBacked (D.image disk.old) self.old }
-        ensures told { D.tells → IsTied self.old → Drives (RoseIn D.Disk disk.old disk.new) txn (table_of self.old) result (table_of self.new) }
+        ensures told { D.tells → IsTied self.old →
+            Drives (RoseIn D.Disk disk.old disk.new) txn (table_of self.old) result
+            (table_of self.new) }
         ensures tellable { IsTellableEnd result }
-        ensures named { IfSome (stuck_name result.stuck) (RoseByName self.old.names (RoseIn D.Disk disk.old disk.new)) }
+        ensures named { IfSome (stuck_name result.stuck)
+            (RoseByName self.old.names (RoseIn D.Disk disk.old disk.new)) }
         ensures limits { self.new.limits ≡ self.old.limits }
-        ensures goes { EngineGoesOn D.Disk (is_stopped result.stuck ≡ true) self.old self.new disk.old disk.new }
+        ensures goes { EngineGoesOn D.Disk
+            (is_stopped result.stuck ≡ true) self.old self.new disk.old disk.new }
     {
         if self.is_closed(txn) {
             return Outcome {
@@ -163,8 +185,14 @@ impl Engine {
         requires reserved { self.old.coord.reserved ≡ 1 }
         requires whole { IsTrue self.old.coord.whole }
         requires backed { IsBacked (D.image disk.old) self.old }
-        ensures ok { (d : Decision) → decision_of (coord_skeletons self.old.coord.front) txn ≡ Some d → D.tells → IsTied self.old → OnOk result (table_of self.new ≡ with_batch (closing_batch txn d) (table_of self.old)) }
-        ensures err { (d : Decision) → decision_of (coord_skeletons self.old.coord.front) txn ≡ Some d → D.tells → IsTied self.old → OnErr result (table_of self.new ≡ with_failed_batch (closing_batch txn d) 0 (table_of self.old)) }
+        ensures ok { (d : Decision) →
+            decision_of (coord_skeletons self.old.coord.front) txn ≡ Some d → D.tells →
+            IsTied self.old → OnOk result (table_of self.new ≡ with_batch (closing_batch txn d)
+            (table_of self.old)) }
+        ensures err { (d : Decision) →
+            decision_of (coord_skeletons self.old.coord.front) txn ≡ Some d → D.tells →
+            IsTied self.old → OnErr result (table_of self.new ≡ with_failed_batch
+            (closing_batch txn d) 0 (table_of self.old)) }
         ensures rose { OnErr result (RoseIn D.Disk disk.old disk.new 0) }
         ensures limits { self.new.limits ≡ self.old.limits }
         ensures goes { EngineGoesOn D.Disk (IsErr result) self.old self.new disk.old disk.new }
@@ -184,8 +212,13 @@ impl Engine {
         requires ready { AreReady txn self.old (length self.old.topics) }
         requires whole { IsWhole self.old }
         requires backed { IsBacked (D.image disk.old) self.old }
-        ensures ok { D.tells → IsTied self.old → OnOk result (MarksAll txn decision (parts_of (coord_skeletons self.old.coord.front) txn) (table_of self.old) (table_of self.new)) }
-        ensures err { D.tells → IsTied self.old → IfErr result (λ at. StopsWithin (RoseIn D.Disk disk.old disk.new) txn decision (parts_of (coord_skeletons self.old.coord.front) txn) (1 + at) (table_of self.old) why.Fault (table_of self.new)) }
+        ensures ok { D.tells → IsTied self.old →
+            OnOk result (MarksAll txn decision (parts_of (coord_skeletons self.old.coord.front) txn)
+            (table_of self.old) (table_of self.new)) }
+        ensures err { D.tells → IsTied self.old →
+            IfErr result (λ at. StopsWithin (RoseIn D.Disk disk.old disk.new) txn decision
+            (parts_of (coord_skeletons self.old.coord.front) txn) (1 + at)
+            (table_of self.old) why.Fault (table_of self.new)) }
         ensures within { IfErr result (λ at. at < length self.old.names) }
         ensures rose { IfErr result (λ at. RoseIn D.Disk disk.old disk.new (1 + at)) }
         ensures coord { self.new.coord ≡ self.old.coord }
@@ -218,8 +251,14 @@ impl Engine {
         requires log { IsTrue self.old.coord.whole }
         requires whole { IsWholeAt self.old at }
         requires backed { IsBacked (D.image disk.old) self.old }
-        ensures ok { D.tells → IsTied self.old → OnOk result (table_of self.new ≡ marked txn decision (1 + at) (table_of self.old)) }
-        ensures err { D.tells → IsTied self.old → OnErr result ((is_none (marker_of (part_skeletons (table_of self.old).world (1 + at)) txn) ≡ true) × (table_of self.new ≡ with_failed_batch (marker_batch (table_of self.old) txn decision (1 + at)) (1 + at) (table_of self.old))) }
+        ensures ok { D.tells → IsTied self.old →
+            OnOk result (table_of self.new ≡ marked txn decision (1 + at) (table_of self.old)) }
+        ensures err { D.tells → IsTied self.old →
+            OnErr result ((is_none (marker_of
+            (part_skeletons (table_of self.old).world (1 + at)) txn) ≡ true)
+            × (table_of self.new ≡ with_failed_batch
+            (marker_batch (table_of self.old) txn decision (1 + at)) (1 + at)
+            (table_of self.old))) }
         ensures rose { OnErr result (RoseIn D.Disk disk.old disk.new (1 + at)) }
         ensures marked { OnOk result (IsMarked txn self.new at) }
         ensures elsewhere { IsElsewhere at self.old self.new }
@@ -250,7 +289,8 @@ impl Engine {
         requires below { at < length self.old.topics }
         requires whole { IsWhole self.old }
         ensures same { IsSameBut self.old self.new }
-        ensures reserved { OnOk result ((t : TopicView) → (slice_index_or self.new.topics at t).reserved ≡ 1) }
+        ensures reserved { OnOk result ((t : TopicView) →
+            (slice_index_or self.new.topics at t).reserved ≡ 1) }
         ensures elsewhere { IsElsewhere at self.old self.new }
     {
         self.topics[at].reserve_end()
@@ -276,13 +316,18 @@ fn mark_topic<D: Disk>(
     requires reserved { topic.old.reserved ≡ 1 }
     requires settled { topic.old.content.standing ≡ settled }
     requires backed { Stored (D.image disk.old) topic.old.content }
-    ensures stood { is_some (marker_of (topic_skeletons topic.old.front) txn) ≡ true → IsOk result × (topic.new ≡ topic.old) × (disk.new ≡ disk.old) }
-    ensures ok { OnOk result (marker_of (topic_skeletons topic.old.front) txn ≡ None → topic.new ≡ with_entries topic.old (marker_entry txn decision ∷ []) 0) }
-    ensures stands { OnOk result (is_some (marker_of (topic_skeletons topic.new.front) txn) ≡ true) }
-    ensures err { OnErr result ((marker_of (topic_skeletons topic.old.front) txn ≡ None) × (topic.new ≡ with_failed_entries topic.old (marker_entry txn decision ∷ []))) }
+    ensures stood { is_some (marker_of (topic_skeletons topic.old.front) txn) ≡ true →
+        IsOk result × (topic.new ≡ topic.old) × (disk.new ≡ disk.old) }
+    ensures ok { OnOk result (marker_of (topic_skeletons topic.old.front) txn ≡ None →
+        topic.new ≡ with_entries topic.old (marker_entry txn decision ∷ []) 0) }
+    ensures stands { OnOk result (is_some
+        (marker_of (topic_skeletons topic.new.front) txn) ≡ true) }
+    ensures err { OnErr result ((marker_of (topic_skeletons topic.old.front) txn ≡ None)
+        × (topic.new ≡ with_failed_entries topic.old (marker_entry txn decision ∷ []))) }
     ensures tied { IsFrontOf topic.old → IsFrontOf topic.new }
     ensures backed { Stored (D.image disk.new) topic.new.content }
-    ensures images { After D.Disk (Appends IsFile StandsIn topic.old.content (topic_batch (marker_entry txn decision ∷ []))) disk.old disk.new }
+    ensures images { After D.Disk (Appends IsFile StandsIn topic.old.content
+        (topic_batch (marker_entry txn decision ∷ []))) disk.old disk.new }
     ensures others { Elsewhere topic.old.content.key (D.seen disk.old) (D.seen disk.new) }
     ensures cause { FaultsIn D.Disk topic.old.content.key.part disk.old disk.new (IsErr result) }
 {
@@ -322,7 +367,11 @@ fn deciding(decision: Decision) -> Status
 /// An end that a fault of this part stopped, with the part's name in room that was taken before.
 fn stuck(decision: Decision, part: &str, room: TextRoom) -> Outcome
     requires { length part.now ≤ room }
-    ensures { result ≡ record { status = deciding decision; stuck = Some (record { part = part.now; why = why.Fault }) } }
+    ensures { result ≡ record {
+      status = deciding decision;
+      stuck = Some
+          (record { part = part.now; why = why.Fault });
+    } }
 {
     Outcome {
         status: deciding(decision),

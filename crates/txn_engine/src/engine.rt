@@ -46,8 +46,21 @@ impl Engine {
         topics: Vec<Topic<Ledger>>,
         limits: &Limits,
     ) -> Engine
-        requires kept { IsEngine (record { names = names.items; coord = coordinator; topics = topics.items; latest = 0; limits = limits.now }) }
-        ensures { result ≡ record { names = names.items; coord = coordinator; topics = topics.items; latest = 0; limits = limits.now } }
+        requires kept { IsEngine
+            (record {
+              names = names.items;
+              coord = coordinator;
+              topics = topics.items;
+              latest = 0;
+              limits = limits.now;
+            }) }
+        ensures { result ≡ record {
+          names = names.items;
+          coord = coordinator;
+          topics = topics.items;
+          latest = 0;
+          limits = limits.now;
+        } }
     {
         Engine {
             alloc,

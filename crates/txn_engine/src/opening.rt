@@ -51,17 +51,24 @@ impl Engine {
         requires limits { InRange limits.now }
         requires names { NamesLawful names.items }
         requires topics { All (λ name. is_topic_name name ≡ true) names.items }
-        ensures opened { IfOk result (λ e. (e.names ≡ names.items) × (e.limits ≡ limits.now) × (e.latest ≡ 0) × IsWhole e) }
+        ensures opened { IfOk result (λ e. (e.names ≡ names.items) × (e.limits ≡ limits.now)
+            × (e.latest ≡ 0) × IsWhole e) }
         ensures kept { IfOk result IsEngine }
         ensures backed { IfOk result (IsBacked (D.image disk.new)) }
         ensures tied { D.tells → IfOk result IsTied }
 
         // The files were as they have to be, and the engine is the table over the world for which they stood.
-        ensures undamaged { D.tells → IfOk result (λ e. AreParts (length names.items) (D.seen disk.old)) }
-        ensures table { D.tells → IfOk result (λ e. (w : World) → StandsFor names.items (D.seen disk.old) w → table_of e ≡ table_over w) }
+        ensures undamaged { D.tells →
+            IfOk result (λ e. AreParts (length names.items) (D.seen disk.old)) }
+        ensures table { D.tells →
+            IfOk result (λ e. (w : World) → StandsFor names.items (D.seen disk.old) w →
+            table_of e ≡ table_over w) }
 
         // Damage is told of the first file in order of its part, and of its first entry that is damaged.
-        ensures damaged { (file : FileId) (entry : ℕ) → result ≡ Err (EngineError.Damaged file entry) → IsPartFile (length names.items) file × (D.tells → IsFirstDamage (length names.items) (D.seen disk.old) file entry) }
+        ensures damaged { (file : FileId) (entry : ℕ) →
+            result ≡ Err (EngineError.Damaged file entry) →
+            IsPartFile (length names.items) file
+            × (D.tells → IsFirstDamage (length names.items) (D.seen disk.old) file entry) }
 
         // A file in which an open gate begins no frame stays as it was.
         ensures uncut { D.tells → KeepsAllDamaged (D.seen disk.old) (D.seen disk.new) }
@@ -73,7 +80,8 @@ impl Engine {
         // No file but the ledgers of these parts changes, in each image at any moment since and as it reads.
         ensures elsewhere { After D.Disk (OnlyLedgers (length names.items)) disk.old disk.new }
         ensures others { OnlyLedgers (length names.items) (D.seen disk.old) (D.seen disk.new) }
-        ensures cause { FaultsWithin D.Disk (length names.items) disk.old disk.new (result ≡ Err EngineError.Fault) }
+        ensures cause { FaultsWithin D.Disk (length names.items) disk.old disk.new
+            (result ≡ Err EngineError.Fault) }
     {
         let named = names.len() as u32;
         let coordinator = open_coordinator(alloc, named, limits, disk, steps)?;

@@ -43,13 +43,18 @@ impl Engine {
         requires whole { IsWholeTopic self.old topic.now }
         requires some { 1 ≤ length bodies.now }
         requires backed { IsBacked (D.image disk.old) self.old }
-        ensures told { D.tells → IsTied self.old → (now : ℕ) → MayTellOn D.Disk disk.old disk.new self.old (request.Publish topic.now txn bodies.now) now result self.new }
+        ensures told { D.tells → IsTied self.old → (now : ℕ) →
+            MayTellOn D.Disk disk.old disk.new self.old
+            (request.Publish topic.now txn bodies.now) now result self.new }
         ensures tellable { IsTellable result }
-        ensures early { TellsEarly self.old.limits (world_of self.old) (request.Publish topic.now txn bodies.now) result }
+        ensures early { TellsEarly self.old.limits (world_of self.old)
+            (request.Publish topic.now txn bodies.now) result }
         ensures undamaged { is_damage result ≡ false }
-        ensures named { IfSome (fault_name result) (RoseByName self.old.names (RoseIn D.Disk disk.old disk.new)) }
+        ensures named { IfSome (fault_name result)
+            (RoseByName self.old.names (RoseIn D.Disk disk.old disk.new)) }
         ensures limits { self.new.limits ≡ self.old.limits }
-        ensures goes { EngineGoesOn D.Disk (is_fault result ≡ true) self.old self.new disk.old disk.new }
+        ensures goes { EngineGoesOn D.Disk
+            (is_fault result ≡ true) self.old self.new disk.old disk.new }
     {
         let Some(number) = part_of(&self.names, topic) else {
             return unknown_part(topic);
@@ -129,7 +134,9 @@ impl Engine {
         requires least { 1 ≤ part }
         requires most { part ≤ length (self.now).names }
         requires few { part < 64 }
-        ensures { (t : TopicView) → result ≡ why_not_in (coord_skeletons self.now.coord.front) (topic_skeletons (slice_index_or self.now.topics (part - 1) t).front) part txn }
+        ensures { (t : TopicView) →
+            result ≡ why_not_in (coord_skeletons self.now.coord.front)
+            (topic_skeletons (slice_index_or self.now.topics (part - 1) t).front) part txn }
     {
         let txn = txn?;
         let topic = &self.topics[part - 1];
@@ -169,18 +176,26 @@ fn add_messages<D: Disk>(
     requires bodies { AreBodies topic.old.limits (contents_of bodies.now) }
     requires backed { Stored (D.image disk.old) topic.old.content }
     ensures first { IfOk result (λ place. place ≡ topic_total topic.old) }
-    ensures ok { OnOk result (topic.new ≡ with_entries topic.old (messages_of txn (contents_of bodies.now)) topic.old.reserved) }
-    ensures full { (result ≡ Err (TopicError.Full (topic_total topic.old))) ↔ (topic.old.limits.log < topic_total topic.old + length bodies.now) }
-    ensures count { (count : ℕ) → result ≡ Err (TopicError.Full count) → count ≡ topic_total topic.old }
+    ensures ok { OnOk result (topic.new ≡ with_entries topic.old
+        (messages_of txn (contents_of bodies.now)) topic.old.reserved) }
+    ensures full { (result ≡ Err (TopicError.Full (topic_total topic.old))) ↔
+        (topic.old.limits.log < topic_total topic.old + length bodies.now) }
+    ensures count { (count : ℕ) → result ≡ Err (TopicError.Full count) →
+        count ≡ topic_total topic.old }
     ensures not_damaged { (place : ℕ) → result ≡ Err (TopicError.Damaged place) → ⊥ }
-    ensures fault { result ≡ Err TopicError.Fault → topic.new ≡ with_failed_entries topic.old (messages_of txn (contents_of bodies.now)) }
-    ensures refused { (count : ℕ) → result ≡ Err (TopicError.Full count) → (topic.new ≡ topic.old) × (disk.new ≡ disk.old) }
-    ensures no_memory { result ≡ Err TopicError.NoMemory → (topic.new ≡ topic.old) × (disk.new ≡ disk.old) }
+    ensures fault { result ≡ Err TopicError.Fault →
+        topic.new ≡ with_failed_entries topic.old (messages_of txn (contents_of bodies.now)) }
+    ensures refused { (count : ℕ) → result ≡ Err (TopicError.Full count) →
+        (topic.new ≡ topic.old) × (disk.new ≡ disk.old) }
+    ensures no_memory { result ≡ Err TopicError.NoMemory →
+        (topic.new ≡ topic.old) × (disk.new ≡ disk.old) }
     ensures tied { IsFrontOf topic.old → IsFrontOf topic.new }
     ensures backed { Stored (D.image disk.new) topic.new.content }
-    ensures images { After D.Disk (Appends IsFile StandsIn topic.old.content (topic_batch (messages_of txn (contents_of bodies.now)))) disk.old disk.new }
+    ensures images { After D.Disk (Appends IsFile StandsIn topic.old.content
+        (topic_batch (messages_of txn (contents_of bodies.now)))) disk.old disk.new }
     ensures others { Elsewhere topic.old.content.key (D.seen disk.old) (D.seen disk.new) }
-    ensures cause { FaultsIn D.Disk topic.old.content.key.part disk.old disk.new (result ≡ Err TopicError.Fault) }
+    ensures cause { FaultsIn D.Disk topic.old.content.key.part disk.old disk.new
+        (result ≡ Err TopicError.Fault) }
 {
     match txn {
         None => topic.publish(disk, bodies),

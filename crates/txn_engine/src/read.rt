@@ -31,12 +31,18 @@ impl Engine {
         requires whole { IsWholeTopic self.now topic.now }
         requires some { 1 ≤ max }
         requires backed { IsBacked (D.image disk.old) self.now }
-        ensures told { D.tells → IsTied self.now → (now : ℕ) → MayTellOn D.Disk disk.old disk.new self.now (request.Read topic.now first max) now result self.now }
+        ensures told { D.tells → IsTied self.now → (now : ℕ) →
+            MayTellOn D.Disk disk.old disk.new self.now
+            (request.Read topic.now first max) now result self.now }
         ensures tellable { IsTellable result }
-        ensures early { TellsEarly self.now.limits (world_of self.now) (request.Read topic.now first max) result }
-        ensures damaged { (part : List ℕ) (place : ℕ) → result ≡ reply.No (no.Damaged part place) → IsDamageIn D.tells self.now (request.Read topic.now first max) part place }
-        ensures named { IfSome (fault_name result) (RoseByName self.now.names (RoseIn D.Disk disk.old disk.new)) }
-        ensures goes { EngineGoesOn D.Disk (is_fault result ≡ true) self.now self.now disk.old disk.new }
+        ensures early { TellsEarly self.now.limits (world_of self.now)
+            (request.Read topic.now first max) result }
+        ensures damaged { (part : List ℕ) (place : ℕ) → result ≡ reply.No (no.Damaged part place) →
+            IsDamageIn D.tells self.now (request.Read topic.now first max) part place }
+        ensures named { IfSome (fault_name result)
+            (RoseByName self.now.names (RoseIn D.Disk disk.old disk.new)) }
+        ensures goes { EngineGoesOn D.Disk
+            (is_fault result ≡ true) self.now self.now disk.old disk.new }
     {
         let Some(number) = part_of(&self.names, topic) else {
             return unknown_part(topic);

@@ -4,14 +4,12 @@ use Rattle.txn_base.specs.declared.disk.Disk as disk
 use Rattle.txn_base.specs.declared.sink.Sink as sink
 use Rattle.txn_base.specs.Moves.{After}
 use Rattle.txn_base.proofs.Laws.{started, goes_on}
-use Rattle.txn_model.specs.Allowed.{LawfulState}
 use Rattle.txn_engine.specs.Above.{KeepsAboveIf}
 use Rattle.txn_engine.specs.Files.{OnlyLedgers}
 use Rattle.txn_engine.specs.Growing.{GrowsWorld}
 use Rattle.txn_engine.specs.Kept.{IsEngine}
-use Rattle.txn_engine.specs.Table.{table_of}
-use Rattle.txn_engine.specs.Told.{FaultsWithin, EngineGoesOn}
-use Rattle.txn_engine.specs.View.{EngineView, IsTied, IsBacked}
+use Rattle.txn_engine.specs.Told.{IsSure, FaultsWithin, EngineGoesOn}
+use Rattle.txn_engine.specs.View.{EngineView, IsBacked}
 use Rattle.txn_engine.proofs.Laws.{files_first, files_then, worlds_first, worlds_then}
 use Rattle.txn_run.specs.Files.{LeavesOthers}
 use Rattle.txn_run.specs.Serving.{Serves, TellsTo}
@@ -27,15 +25,19 @@ module _ {D : Type 0} (on : disk.Ghosts D) where
     names = refl;
     limits = refl;
     engine = is;
-    tied = λ t. t;
+    tied = λ told t. t;
     backed = backed;
-    lawful = λ tied state. state;
-    images = keeps_first on (IsTied v × LawfulState (table_of v)) v.names at;
+    lawful = λ was. was.lawful;
+    images = keeps_first on (IsSure on v) v.names at;
     grows = files_first on at;
     worlds = worlds_first on v.names at;
     elsewhere = leaves_none on (length v.names) at;
     cause = counts_but _ _ _ (on.part_faults at) (on.part_faults at) _ _ (λ x. none x) (counts_first (length v.names) (on.faults at) (on.part_faults at));
   }
+
+  -- what was sure stays so
+  sure_then : {X : Type 0} {u v : EngineView} {old mid : D} → Serves on X u v old mid → IsSure on u → IsSure on v
+  sure_then one was = record { told = was.told; tied = one.tied was.told was.tied; lawful = one.lawful was }
 
   -- one call more
   pub serves_then : {X Y : Type 0} {u v w : EngineView} {old mid new : D} → Serves on X u v old mid → Serves on Y v w mid new → Serves on Y u w old new
@@ -43,10 +45,10 @@ module _ {D : Type 0} (on : disk.Ghosts D) where
     names = two.names ∙ one.names;
     limits = two.limits ∙ one.limits;
     engine = two.engine;
-    tied = λ t. two.tied (one.tied t);
+    tied = λ told t. two.tied told (one.tied told t);
     backed = two.backed;
-    lawful = λ tied state. two.lawful (one.tied tied) (one.lawful tied state);
-    images = keeps_then on _ _ u.names v.names old mid new one.names (λ x. (one.tied x.0, one.lawful x.0 x.1)) one.images two.images;
+    lawful = λ was. two.lawful (sure_then one was);
+    images = keeps_then on _ _ u.names v.names old mid new one.names (sure_then one) one.images two.images;
     grows = files_then on old mid new one.grows two.grows;
     worlds = worlds_then on u.names old mid new one.worlds (subst (λ (ns : List (List ℕ)). After on (GrowsWorld ns) mid new) one.names two.worlds);
     elsewhere = leaves_then on u.names v.names old mid new one.names one.elsewhere two.elsewhere;

@@ -10,7 +10,7 @@ use Rattle.txn_engine.specs.Above.{KeepsAboveIf}
 use Rattle.txn_engine.specs.Growing.{Grows, GrowsWorld}
 use Rattle.txn_engine.specs.Kept.{IsEngine}
 use Rattle.txn_engine.specs.Table.{table_of}
-use Rattle.txn_engine.specs.Told.{FaultsWithin}
+use Rattle.txn_engine.specs.Told.{IsSure, FaultsWithin}
 use Rattle.txn_engine.specs.View.{EngineView, IsWhole, IsTied, IsBacked}
 use Rattle.txn_run.specs.Files.{LeavesOthers}
 use Rattle.txn_run.specs.Told.{OnlyAppends, EndsWithFault}
@@ -24,17 +24,17 @@ pub record CanServe {D : Type 0} (d : disk.Ghosts D) (limits : Limits) (v : Engi
   pub engine : IsEngine v
   pub backed : IsBacked (d.image at) v
 
--- From v to v', over these disks: the parts stay, tied to the ledgers and backed by each image; a state of the table that is
--- lawful stays so, and then whatever world an image at first extends soundly, those that come of it extend; lawful or not,
+-- From v to v', over these disks: the parts stay, tied to the ledgers on a disk that tells, and backed by each image; a state of
+-- the table that is lawful stays so, and then whatever world an image at first extends soundly, those that come of it extend; lawful or not,
 -- what files stand for only grows; no file but the ledgers changes; and the counts rose where this is a fault.
 pub record Serves {D : Type 0} (d : disk.Ghosts D) (is_fault : Type 0) (v v' : EngineView) (old new : D) : Type 0 where
   pub names : v'.names ≡ v.names
   pub limits : v'.limits ≡ v.limits
   pub engine : IsEngine v'
-  pub tied : IsTied v → IsTied v'
+  pub tied : d.tells → IsTied v → IsTied v'
   pub backed : IsBacked (d.image new) v'
-  pub lawful : IsTied v → LawfulState (table_of v) → LawfulState (table_of v')
-  pub images : After d (KeepsAboveIf (IsTied v × LawfulState (table_of v)) v.names) old new
+  pub lawful : IsSure d v → LawfulState (table_of v')
+  pub images : After d (KeepsAboveIf (IsSure d v) v.names) old new
   pub grows : After d Grows old new
   pub worlds : After d (GrowsWorld v.names) old new
   pub elsewhere : LeavesOthers d (length v.names) old new

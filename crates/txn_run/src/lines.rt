@@ -86,11 +86,20 @@ fn reply<D: Disk, K: Clock, L: ledger::Ledger>(
     clock: &mut K,
 ) -> Option<Reply>
     requires ready { CanServe D.Disk limits.now engine.old disk.old }
-    ensures some { IfSome result (λ told. D.tells → IsTied engine.old → (piece : List ℕ) → IsLineSoFar limits.now.line pending.now piece → LineMayTell limits.now (run_state_at D.Disk K.Clock engine.old clock.old disk.old) (line_kind limits.now piece) told (run_state_at D.Disk K.Clock engine.new clock.new disk.new)) }
-    ensures none { result ≡ None → (piece : List ℕ) → IsLineSoFar limits.now.line pending.now piece → Replied limits.now (run_state_at D.Disk K.Clock engine.old clock.old disk.old) (line_kind limits.now piece) [] (run_state_at D.Disk K.Clock engine.new clock.new disk.new) }
+    ensures some { IfSome result (λ told. D.tells → IsTied engine.old → (piece : List ℕ) →
+        IsLineSoFar limits.now.line pending.now piece →
+        LineMayTell limits.now (run_state_at D.Disk K.Clock engine.old clock.old disk.old)
+        (line_kind limits.now piece) told
+        (run_state_at D.Disk K.Clock engine.new clock.new disk.new)) }
+    ensures none { result ≡ None → (piece : List ℕ) →
+        IsLineSoFar limits.now.line pending.now piece →
+        Replied limits.now (run_state_at D.Disk K.Clock engine.old clock.old disk.old)
+        (line_kind limits.now piece) []
+        (run_state_at D.Disk K.Clock engine.new clock.new disk.new) }
     ensures whole { IsWhole engine.new ⊎ (tells_fault result ≡ true) }
     ensures tellable { IfSome result IsTellable }
-    ensures serves { Serves D.Disk (tells_fault result ≡ true) engine.old engine.new disk.old disk.new }
+    ensures serves { Serves D.Disk
+        (tells_fault result ≡ true) engine.old engine.new disk.old disk.new }
 {
     if pending.long {
         return Some(Reply::No(Refusal::TooLong));
@@ -128,11 +137,24 @@ fn answer_line<D: Disk, O: Sink, K: Clock, L: ledger::Ledger>(
     requires ready { CanServe D.Disk limits.now engine.old disk.old }
     requires room { 512 ≤ capacity out.old }
     ensures kept { capacity out.old ≤ capacity out.new }
-    ensures ok { result ≡ Ok tt → D.tells → IsTied engine.old → (piece : List ℕ) → IsLineSoFar limits.now.line pending.now piece → ToldLine limits.now (run_state_at D.Disk K.Clock engine.old clock.old disk.old) (line_kind limits.now piece) (run_state_at D.Disk K.Clock engine.new clock.new disk.new) (O.held sink.old) (O.held sink.new) }
-    ensures sink { result ≡ Err stop.Sink → D.tells → IsTied engine.old → (piece : List ℕ) → IsLineSoFar limits.now.line pending.now piece → ToldFront limits.now (run_state_at D.Disk K.Clock engine.old clock.old disk.old) (line_kind limits.now piece) (run_state_at D.Disk K.Clock engine.new clock.new disk.new) (O.held sink.old) (O.held sink.new) }
-    ensures disk { result ≡ Err stop.Disk → D.tells → IsTied engine.old → (piece : List ℕ) → IsLineSoFar limits.now.line pending.now piece → ToldFault limits.now (run_state_at D.Disk K.Clock engine.old clock.old disk.old) (line_kind limits.now piece) (run_state_at D.Disk K.Clock engine.new clock.new disk.new) (O.held sink.old) (O.held sink.new) }
+    ensures ok { result ≡ Ok tt → D.tells → IsTied engine.old → (piece : List ℕ) →
+        IsLineSoFar limits.now.line pending.now piece →
+        ToldLine limits.now (run_state_at D.Disk K.Clock engine.old clock.old disk.old)
+        (line_kind limits.now piece) (run_state_at D.Disk K.Clock engine.new clock.new disk.new)
+        (O.held sink.old) (O.held sink.new) }
+    ensures sink { result ≡ Err stop.Sink → D.tells → IsTied engine.old → (piece : List ℕ) →
+        IsLineSoFar limits.now.line pending.now piece →
+        ToldFront limits.now (run_state_at D.Disk K.Clock engine.old clock.old disk.old)
+        (line_kind limits.now piece) (run_state_at D.Disk K.Clock engine.new clock.new disk.new)
+        (O.held sink.old) (O.held sink.new) }
+    ensures disk { result ≡ Err stop.Disk → D.tells → IsTied engine.old → (piece : List ℕ) →
+        IsLineSoFar limits.now.line pending.now piece →
+        ToldFault limits.now (run_state_at D.Disk K.Clock engine.old clock.old disk.old)
+        (line_kind limits.now piece) (run_state_at D.Disk K.Clock engine.new clock.new disk.new)
+        (O.held sink.old) (O.held sink.new) }
     ensures whole { OnOk result (IsWhole engine.new) }
-    ensures serves { Serves D.Disk (result ≡ Err stop.Disk) engine.old engine.new disk.old disk.new }
+    ensures serves { Serves D.Disk
+        (result ≡ Err stop.Disk) engine.old engine.new disk.old disk.new }
     ensures tells { TellsTo O.Sink result sink.old sink.new }
 {
     match reply(alloc, limits, pending, engine, disk, steps, clock) {
@@ -167,11 +189,21 @@ fn take_byte<D: Disk, O: Sink, K: Clock, L: ledger::Ledger>(
     requires room { 512 ≤ capacity out.old }
     ensures line { limits.now.line ≤ capacity pending.new.line }
     ensures kept { capacity out.old ≤ capacity out.new }
-    ensures ok { result ≡ Ok tt → D.tells → IsTied engine.old → RunGoesOn limits.now (byte ∷ []) pending.old (run_state_at D.Disk K.Clock engine.old clock.old disk.old) (O.held sink.old) pending.new (run_state_at D.Disk K.Clock engine.new clock.new disk.new) (O.held sink.new) }
-    ensures sink { result ≡ Err stop.Sink → D.tells → IsTied engine.old → BreaksOff limits.now (byte ∷ []) pending.old (run_state_at D.Disk K.Clock engine.old clock.old disk.old) (O.held sink.old) (run_state_at D.Disk K.Clock engine.new clock.new disk.new) (O.held sink.new) }
-    ensures disk { result ≡ Err stop.Disk → D.tells → IsTied engine.old → StopsIn limits.now (byte ∷ []) pending.old (run_state_at D.Disk K.Clock engine.old clock.old disk.old) (O.held sink.old) (run_state_at D.Disk K.Clock engine.new clock.new disk.new) (O.held sink.new) }
+    ensures ok { result ≡ Ok tt → D.tells → IsTied engine.old →
+        RunGoesOn limits.now (byte ∷ []) pending.old
+        (run_state_at D.Disk K.Clock engine.old clock.old disk.old) (O.held sink.old) pending.new
+        (run_state_at D.Disk K.Clock engine.new clock.new disk.new) (O.held sink.new) }
+    ensures sink { result ≡ Err stop.Sink → D.tells → IsTied engine.old →
+        BreaksOff limits.now (byte ∷ []) pending.old
+        (run_state_at D.Disk K.Clock engine.old clock.old disk.old) (O.held sink.old)
+        (run_state_at D.Disk K.Clock engine.new clock.new disk.new) (O.held sink.new) }
+    ensures disk { result ≡ Err stop.Disk → D.tells → IsTied engine.old →
+        StopsIn limits.now (byte ∷ []) pending.old
+        (run_state_at D.Disk K.Clock engine.old clock.old disk.old) (O.held sink.old)
+        (run_state_at D.Disk K.Clock engine.new clock.new disk.new) (O.held sink.new) }
     ensures whole { OnOk result (IsWhole engine.new) }
-    ensures serves { Serves D.Disk (result ≡ Err stop.Disk) engine.old engine.new disk.old disk.new }
+    ensures serves { Serves D.Disk
+        (result ≡ Err stop.Disk) engine.old engine.new disk.old disk.new }
     ensures tells { TellsTo O.Sink result sink.old sink.new }
 {
     if byte == b'\n' {
@@ -205,11 +237,21 @@ pub fn feed<D: Disk, O: Sink, K: Clock, L: ledger::Ledger>(
     requires room { 512 ≤ capacity out.old }
     ensures line { limits.now.line ≤ capacity pending.new.line }
     ensures kept { capacity out.old ≤ capacity out.new }
-    ensures ok { result ≡ Ok tt → D.tells → IsTied engine.old → RunGoesOn limits.now bytes.now pending.old (run_state_at D.Disk K.Clock engine.old clock.old disk.old) (O.held sink.old) pending.new (run_state_at D.Disk K.Clock engine.new clock.new disk.new) (O.held sink.new) }
-    ensures sink { result ≡ Err stop.Sink → D.tells → IsTied engine.old → BreaksOff limits.now bytes.now pending.old (run_state_at D.Disk K.Clock engine.old clock.old disk.old) (O.held sink.old) (run_state_at D.Disk K.Clock engine.new clock.new disk.new) (O.held sink.new) }
-    ensures disk { result ≡ Err stop.Disk → D.tells → IsTied engine.old → StopsIn limits.now bytes.now pending.old (run_state_at D.Disk K.Clock engine.old clock.old disk.old) (O.held sink.old) (run_state_at D.Disk K.Clock engine.new clock.new disk.new) (O.held sink.new) }
+    ensures ok { result ≡ Ok tt → D.tells → IsTied engine.old →
+        RunGoesOn limits.now bytes.now pending.old
+        (run_state_at D.Disk K.Clock engine.old clock.old disk.old) (O.held sink.old) pending.new
+        (run_state_at D.Disk K.Clock engine.new clock.new disk.new) (O.held sink.new) }
+    ensures sink { result ≡ Err stop.Sink → D.tells → IsTied engine.old →
+        BreaksOff limits.now bytes.now pending.old
+        (run_state_at D.Disk K.Clock engine.old clock.old disk.old) (O.held sink.old)
+        (run_state_at D.Disk K.Clock engine.new clock.new disk.new) (O.held sink.new) }
+    ensures disk { result ≡ Err stop.Disk → D.tells → IsTied engine.old →
+        StopsIn limits.now bytes.now pending.old
+        (run_state_at D.Disk K.Clock engine.old clock.old disk.old) (O.held sink.old)
+        (run_state_at D.Disk K.Clock engine.new clock.new disk.new) (O.held sink.new) }
     ensures whole { OnOk result (IsWhole engine.new) }
-    ensures serves { Serves D.Disk (result ≡ Err stop.Disk) engine.old engine.new disk.old disk.new }
+    ensures serves { Serves D.Disk
+        (result ≡ Err stop.Disk) engine.old engine.new disk.old disk.new }
     ensures tells { TellsTo O.Sink result sink.old sink.new }
 {
     for byte in bytes {
@@ -237,13 +279,29 @@ pub fn finish<D: Disk, O: Sink, K: Clock, L: ledger::Ledger>(
 ) -> Result<(), Stop>
     requires ready { CanServe D.Disk limits.now engine.old disk.old }
     requires room { 512 ≤ capacity out.old }
-    ensures ok { result ≡ Ok tt → D.tells → IsTied engine.old → (first : RunState) (old : Option (List ℕ)) (fed : List ℕ) → Going limits.now first old fed pending.now (run_state_at D.Disk K.Clock engine.old clock.old disk.old) (O.held sink.old) → AnsweredLines limits.now first (lines_of fed) (run_state_at D.Disk K.Clock engine.new clock.new disk.new) old (O.held sink.new) }
-    ensures sink { result ≡ Err stop.Sink → D.tells → IsTied engine.old → (first : RunState) (old : Option (List ℕ)) (fed : List ℕ) → Going limits.now first old fed pending.now (run_state_at D.Disk K.Clock engine.old clock.old disk.old) (O.held sink.old) → Broken limits.now first old (lines_of fed) (run_state_at D.Disk K.Clock engine.new clock.new disk.new) (O.held sink.new) }
-    ensures disk { result ≡ Err stop.Disk → D.tells → IsTied engine.old → (first : RunState) (old : Option (List ℕ)) (fed : List ℕ) → Going limits.now first old fed pending.now (run_state_at D.Disk K.Clock engine.old clock.old disk.old) (O.held sink.old) → Stopped limits.now first old (lines_of fed) (run_state_at D.Disk K.Clock engine.new clock.new disk.new) (O.held sink.new) }
+    ensures ok { result ≡ Ok tt → D.tells → IsTied engine.old →
+        (first : RunState) (old : Option (List ℕ)) (fed : List ℕ) →
+        Going limits.now first old fed pending.now
+        (run_state_at D.Disk K.Clock engine.old clock.old disk.old) (O.held sink.old) →
+        AnsweredLines limits.now first (lines_of fed)
+        (run_state_at D.Disk K.Clock engine.new clock.new disk.new) old (O.held sink.new) }
+    ensures sink { result ≡ Err stop.Sink → D.tells → IsTied engine.old →
+        (first : RunState) (old : Option (List ℕ)) (fed : List ℕ) →
+        Going limits.now first old fed pending.now
+        (run_state_at D.Disk K.Clock engine.old clock.old disk.old) (O.held sink.old) →
+        Broken limits.now first old (lines_of fed)
+        (run_state_at D.Disk K.Clock engine.new clock.new disk.new) (O.held sink.new) }
+    ensures disk { result ≡ Err stop.Disk → D.tells → IsTied engine.old →
+        (first : RunState) (old : Option (List ℕ)) (fed : List ℕ) →
+        Going limits.now first old fed pending.now
+        (run_state_at D.Disk K.Clock engine.old clock.old disk.old) (O.held sink.old) →
+        Stopped limits.now first old (lines_of fed)
+        (run_state_at D.Disk K.Clock engine.new clock.new disk.new) (O.held sink.new) }
     ensures whole { OnOk result (IsWhole engine.new) }
     ensures some { result ≡ Err stop.Disk → IsLineSoFar limits.now.line pending.now [] → ⊥ }
     ensures clock { IsLineSoFar limits.now.line pending.now [] → clock.new ≡ clock.old }
-    ensures serves { Serves D.Disk (result ≡ Err stop.Disk) engine.old engine.new disk.old disk.new }
+    ensures serves { Serves D.Disk
+        (result ≡ Err stop.Disk) engine.old engine.new disk.old disk.new }
     ensures tells { TellsTo O.Sink result sink.old sink.new }
 {
     if pending.is_empty() {
@@ -258,7 +316,10 @@ pub fn finish<D: Disk, O: Sink, K: Clock, L: ledger::Ledger>(
 pub fn take_into<I: Source>(source: &mut I, chunk: &mut [u8], most: usize) -> Result<usize, Failed>
     requires { most ≤ length chunk.old }
     ensures bound { IfOk result (λ n. n ≤ most) }
-    ensures bytes { MatchResult result (λ n. Consumes (I.left source.old) (I.left source.new) (take n chunk.new) × (n ≡ 0 → 0 < most → IsAtEnd (I.left source.new))) (λ _. Keeps (I.left source.old) (I.left source.new)) }
+    ensures bytes { MatchResult result
+        (λ n. Consumes (I.left source.old) (I.left source.new) (take n chunk.new)
+        × (n ≡ 0 → 0 < most → IsAtEnd (I.left source.new)))
+        (λ _. Keeps (I.left source.old) (I.left source.new)) }
     ensures beside { I.rest source.new ≡ I.rest source.old }
     ensures cause { HasCause (I.faults source.old) (I.faults source.new) result }
 {

@@ -67,10 +67,13 @@ pub fn run<D: Disk, I: Source, O: Sink, K: Clock>(
 
     // Where the files are sound, they stay so.
     ensures images { Asks words.now (λ names. After D.Disk (KeepsAbove names) disk.old disk.new) }
-    ensures always { Asks words.now (λ names. (floor : World) → AtEachMoment D.Disk (StandsAbove names floor) (StandsAbove names floor) disk.old disk.new) }
+    ensures always { Asks words.now (λ names. (floor : World) →
+        AtEachMoment D.Disk (StandsAbove names floor) (StandsAbove names floor) disk.old disk.new) }
 
     // In the words of transactions: at every moment each image keeps the promises, and nothing of what stood lapses.
-    ensures promises { Asks words.now (λ names. (floor : World) → AtEachMoment D.Disk (StandsAbove names floor) (KeepsPromises names floor) disk.old disk.new) }
+    ensures promises { Asks words.now (λ names. (floor : World) →
+        AtEachMoment D.Disk (StandsAbove names floor)
+        (KeepsPromises names floor) disk.old disk.new) }
 
     // Only the two ledgers change. Where no line was looked at, each file keeps the list that it stands for, and one in which
     // an open gate begins no frame stays as it was.
@@ -80,13 +83,19 @@ pub fn run<D: Disk, I: Source, O: Sink, K: Clock>(
 
     // Where all that was sent is answered, a stop leaves of each ledger its frames and no more.
     ensures tidy { IsAtRest result → (c : Files) → D.image disk.new c → AreJustFrames 1 c }
-    ensures usage { (u : Usage) → command_of words.now ≡ Err u → ((result ≡ status.Usage u) ⊎ (result ≡ status.NoMemory)) × (disk.new ≡ disk.old) × (source.new ≡ source.old) × (sink.new ≡ sink.old) }
+    ensures usage { (u : Usage) → command_of words.now ≡ Err u →
+        ((result ≡ status.Usage u) ⊎ (result ≡ status.NoMemory)) × (disk.new ≡ disk.old)
+        × (source.new ≡ source.old) × (sink.new ≡ sink.old) }
     ensures command { (u : Usage) → result ≡ status.Usage u → command_of words.now ≡ Err u }
     ensures undamaged { IsAnswered result → D.tells → AreParts 1 (D.seen disk.old) }
-    ensures damaged { (file : FileId) (entry : ℕ) → result ≡ status.Damaged file entry → IsPartFile 1 file × (D.tells → IsFirstDamage 1 (D.seen disk.old) file entry) }
+    ensures damaged { (file : FileId) (entry : ℕ) → result ≡ status.Damaged file entry →
+        IsPartFile 1 file × (D.tells → IsFirstDamage 1 (D.seen disk.old) file entry) }
     ensures quiet { IsQuiet result → (source.new ≡ source.old) × (sink.new ≡ sink.old) }
-    ensures stopped { result ≡ status.DiskFault → DiskStopped D.Disk I.Source O.Sink 1 disk.old disk.new source.old source.new sink.old sink.new clock.old clock.new }
-    ensures taken { Took result limits.now (I.left source.old) (I.left source.new) clock.old clock.new }
+    ensures stopped { result ≡ status.DiskFault →
+        DiskStopped D.Disk I.Source O.Sink 1 disk.old disk.new source.old source.new sink.old
+        sink.new clock.old clock.new }
+    ensures taken { Took result limits.now (I.left source.old)
+        (I.left source.new) clock.old clock.new }
     ensures clock { IsUnstarted result → clock.new ≡ clock.old }
     ensures read { result ≡ status.ReadFault → Rose (I.faults source.old) (I.faults source.new) }
     ensures write { result ≡ status.WriteFault → Rose (O.faults sink.old) (O.faults sink.new) }
@@ -125,24 +134,34 @@ fn run_over<L: ledger::Ledger, D: Disk, I: Source, O: Sink, K: Clock>(
     requires names { NamesLawful names.items }
     requires topics { All (λ name. is_topic_name name ≡ true) names.items }
     requires limits { InRange limits.now }
-    ensures answers { RunsOn D.Disk I.Source O.Sink K.Clock result limits.now names.items disk.old disk.new source.old source.new sink.old sink.new clock.old clock.new }
+    ensures answers { RunsOn D.Disk I.Source O.Sink K.Clock result limits.now names.items disk.old
+        disk.new source.old source.new sink.old sink.new clock.old clock.new }
     ensures grows { After D.Disk Grows disk.old disk.new }
     ensures worlds { After D.Disk (GrowsWorld names.items) disk.old disk.new }
     ensures images { After D.Disk (KeepsAbove names.items) disk.old disk.new }
     ensures lists { IsQuiet result → After D.Disk KeepsFiles disk.old disk.new }
     ensures uncut { IsQuiet result → D.tells → KeepsAllDamaged (D.seen disk.old) (D.seen disk.new) }
-    ensures tidy { IsAtRest result → (c : Files) → D.image disk.new c → AreJustFrames (length names.items) c }
+    ensures tidy { IsAtRest result → (c : Files) → D.image disk.new c →
+        AreJustFrames (length names.items) c }
     ensures elsewhere { LeavesOthers D.Disk (length names.items) disk.old disk.new }
     ensures statuses { IsOpened result }
-    ensures undamaged { IsAnswered result → D.tells → AreParts (length names.items) (D.seen disk.old) }
-    ensures damaged { (file : FileId) (entry : ℕ) → result ≡ status.Damaged file entry → IsPartFile (length names.items) file × (D.tells → IsFirstDamage (length names.items) (D.seen disk.old) file entry) }
+    ensures undamaged { IsAnswered result → D.tells →
+        AreParts (length names.items) (D.seen disk.old) }
+    ensures damaged { (file : FileId) (entry : ℕ) → result ≡ status.Damaged file entry →
+        IsPartFile (length names.items) file
+        × (D.tells → IsFirstDamage (length names.items) (D.seen disk.old) file entry) }
     ensures quiet { IsQuiet result → (source.new ≡ source.old) × (sink.new ≡ sink.old) }
-    ensures stopped { result ≡ status.DiskFault → DiskStopped D.Disk I.Source O.Sink (length names.items) disk.old disk.new source.old source.new sink.old sink.new clock.old clock.new }
-    ensures taken { Took result limits.now (I.left source.old) (I.left source.new) clock.old clock.new }
+    ensures stopped { result ≡ status.DiskFault →
+        DiskStopped D.Disk I.Source O.Sink
+        (length names.items) disk.old disk.new source.old source.new sink.old sink.new clock.old
+        clock.new }
+    ensures taken { Took result limits.now (I.left source.old)
+        (I.left source.new) clock.old clock.new }
     ensures clock { IsUnstarted result → clock.new ≡ clock.old }
     ensures read { result ≡ status.ReadFault → Rose (I.faults source.old) (I.faults source.new) }
     ensures write { result ≡ status.WriteFault → Rose (O.faults sink.old) (O.faults sink.new) }
-    ensures disk { FaultsWithin D.Disk (length names.items) disk.old disk.new (result ≡ status.DiskFault) }
+    ensures disk { FaultsWithin D.Disk (length names.items) disk.old disk.new
+        (result ≡ status.DiskFault) }
 {
     let Ok(room) = room_for(alloc, limits.line) else {
         return RunStatus::NoMemory;
@@ -193,11 +212,18 @@ fn run_in<L: ledger::Ledger, D: Disk, I: Source, O: Sink, K: Clock>(
     requires line { limits.now.line ≤ capacity pending.old.line }
     requires out { 512 ≤ capacity out.old }
     requires ready { CanServe D.Disk limits.now engine.old disk.old }
-    ensures answers { D.tells → IsTied engine.old → (taken : List ℕ) × Consumes (I.left source.old) (I.left source.new) taken × Ended result limits.now (run_state_at D.Disk K.Clock engine.old clock.old disk.old) (O.held sink.old) taken (run_state_at D.Disk K.Clock engine.new clock.new disk.new) (O.held sink.new) (I.left source.new) }
-    ensures taken { Took result limits.now (I.left source.old) (I.left source.new) clock.old clock.new }
-    ensures stopped { result ≡ status.DiskFault → FaultIsLast (I.left source.old) (I.left source.new) (O.held sink.old) (O.held sink.new) }
+    ensures answers { D.tells → IsTied engine.old →
+        (taken : List ℕ) × Consumes (I.left source.old) (I.left source.new) taken
+        × Ended result limits.now (run_state_at D.Disk K.Clock engine.old clock.old disk.old)
+        (O.held sink.old) taken (run_state_at D.Disk K.Clock engine.new clock.new disk.new)
+        (O.held sink.new) (I.left source.new) }
+    ensures taken { Took result limits.now (I.left source.old)
+        (I.left source.new) clock.old clock.new }
+    ensures stopped { result ≡ status.DiskFault →
+        FaultIsLast (I.left source.old) (I.left source.new) (O.held sink.old) (O.held sink.new) }
     ensures statuses { CameToLines result × (IsAtRest result → IsWhole engine.new) }
-    ensures serves { Serves D.Disk (result ≡ status.DiskFault) engine.old engine.new disk.old disk.new }
+    ensures serves { Serves D.Disk
+        (result ≡ status.DiskFault) engine.old engine.new disk.old disk.new }
     ensures read { result ≡ status.ReadFault → Rose (I.faults source.old) (I.faults source.new) }
     ensures write { result ≡ status.WriteFault → Rose (O.faults sink.old) (O.faults sink.new) }
 {

@@ -34,7 +34,8 @@ pub fn put_reply<O: Sink>(
     requires room { 512 ≤ capacity out.old }
     requires tellable { IsTellable reply.now }
     ensures kept { capacity out.old ≤ capacity out.new }
-    ensures bytes { (told : Reply) × IsToldFor reply.now told × PutsAll (O.held sink.old) (O.held sink.new) result (text_of told) }
+    ensures bytes { (told : Reply) × IsToldFor reply.now told × PutsAll (O.held sink.old)
+        (O.held sink.new) result (text_of told) }
     ensures beside { O.rest sink.new ≡ O.rest sink.old }
     ensures cause { HasCause (O.faults sink.old) (O.faults sink.new) result }
 {

@@ -21,7 +21,8 @@ pub struct Room {
 
 /// The room for lines of at most so many bytes.
 pub fn room_for(alloc: Global, line: u64) -> Result<Room, AllocError>
-    ensures { IfOk result (λ r. (length r.chunk.items ≡ 4096) × IsLineSoFar line r.pending [] × (line ≤ capacity r.pending.line) × (512 ≤ capacity r.out)) }
+    ensures { IfOk result (λ r. (length r.chunk.items ≡ 4096) × IsLineSoFar line r.pending []
+        × (line ≤ capacity r.pending.line) × (512 ≤ capacity r.out)) }
 {
     let chunk = vec![in alloc; 0u8; CHUNK]?;
     let piece = with_room(alloc, line as usize)?;

@@ -12,7 +12,8 @@ use txn_base::{Text, Usage};
 
 /// The names of the parts, which are the one topic that the words name, or the status that they come to.
 pub fn names_of(alloc: Global, words: &[Text]) -> Result<Vec<Text>, RunStatus>
-    ensures words { IfOk result (λ names. (name : List ℕ) × (names.items ≡ name ∷ []) × (command_of words.now ≡ Ok name)) }
+    ensures words { IfOk result (λ names. (name : List ℕ) × (names.items ≡ name ∷ [])
+        × (command_of words.now ≡ Ok name)) }
     ensures refused { IfErr result (λ status. ReadsWords (Err status) (command_of words.now)) }
     ensures lawful { IfOk result (λ names. NamesLawful names.items) }
     ensures topics { IfOk result (λ names. All (λ name. is_topic_name name ≡ true) names.items) }

@@ -30,11 +30,16 @@ pub fn open_coordinator<D: Disk, L: ledger::Ledger>(
 ) -> Result<Coordinator<Ledger>, EngineError>
     requires named { named ≤ 62 }
     requires limits { InRange limits.now }
-    ensures opened { IfOk result (λ c. IsCoordinator limits.now named c × IsTrue c.whole × (c.opened_low ≡ low_of c.front)) }
+    ensures opened { IfOk result (λ c. IsCoordinator limits.now named c × IsTrue c.whole
+        × (c.opened_low ≡ low_of c.front)) }
     ensures backed { IfOk result (λ c. Stored (D.image disk.new) c.content) }
-    ensures told { D.tells → IfOk result (λ c. IsCoordinatorOf named c (D.seen disk.old (ledger_file 0))) }
-    ensures damaged { (file : FileId) (entry : ℕ) → result ≡ Err (EngineError.Damaged file entry) → (file ≡ ledger_file 0) × (D.tells → IsDamagedLog named (D.seen disk.old (ledger_file 0)) entry) }
-    ensures uncut { D.tells → KeepsDamaged (D.seen disk.old (ledger_file 0)) (D.seen disk.new (ledger_file 0)) }
+    ensures told { D.tells →
+        IfOk result (λ c. IsCoordinatorOf named c (D.seen disk.old (ledger_file 0))) }
+    ensures damaged { (file : FileId) (entry : ℕ) → result ≡ Err (EngineError.Damaged file entry) →
+        (file ≡ ledger_file 0) × (D.tells →
+        IsDamagedLog named (D.seen disk.old (ledger_file 0)) entry) }
+    ensures uncut { D.tells →
+        KeepsDamaged (D.seen disk.old (ledger_file 0)) (D.seen disk.new (ledger_file 0)) }
     ensures images { After D.Disk (Changes (ledger_file 0) KeepsFile) disk.old disk.new }
     ensures others { Elsewhere (ledger_file 0) (D.seen disk.old) (D.seen disk.new) }
     ensures cause { FaultsIn D.Disk 0 disk.old disk.new (result ≡ Err EngineError.Fault) }
@@ -59,7 +64,8 @@ pub fn open_coordinator<D: Disk, L: ledger::Ledger>(
 fn is_whole(coordinator: &Coordinator<Ledger>) -> bool
     ensures whole { result ≡ coordinator.now.whole }
     ensures within { length coordinator.now.front ≤ coord_total coordinator.now }
-    ensures all { IsTrue coordinator.now.whole → length coordinator.now.front ≡ coord_total coordinator.now }
+    ensures all { IsTrue coordinator.now.whole →
+        length coordinator.now.front ≡ coord_total coordinator.now }
 {
     matches!(coordinator.state(), PartState::Whole)
 }

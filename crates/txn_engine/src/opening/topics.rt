@@ -32,10 +32,15 @@ pub fn open_topics<D: Disk, L: ledger::Ledger>(
 ) -> Result<Vec<Topic<Ledger>>, EngineError>
     requires named { named ≤ 62 }
     requires limits { InRange limits.now }
-    ensures opened { IfOk result (λ topics. AreTopics limits.now 1 topics.items × (length topics.items ≡ named) × All (λ t. IsTrue t.whole) topics.items) }
-    ensures backed { IfOk result (λ topics. All (λ t. Stored (D.image disk.new) t.content) topics.items) }
-    ensures told { D.tells → IfOk result (λ topics. All (λ t. IsTopicOf t (D.seen disk.old t.content.key)) topics.items) }
-    ensures damaged { (file : FileId) (entry : ℕ) → result ≡ Err (EngineError.Damaged file entry) → IsFirstDamagedTopic named D.tells (D.seen disk.old) file entry }
+    ensures opened { IfOk result (λ topics. AreTopics limits.now 1 topics.items
+        × (length topics.items ≡ named) × All (λ t. IsTrue t.whole) topics.items) }
+    ensures backed { IfOk result (λ topics. All
+        (λ t. Stored (D.image disk.new) t.content) topics.items) }
+    ensures told { D.tells →
+        IfOk result (λ topics. All (λ t. IsTopicOf t
+        (D.seen disk.old t.content.key)) topics.items) }
+    ensures damaged { (file : FileId) (entry : ℕ) → result ≡ Err (EngineError.Damaged file entry) →
+        IsFirstDamagedTopic named D.tells (D.seen disk.old) file entry }
     ensures uncut { D.tells → KeepsAllDamaged (D.seen disk.old) (D.seen disk.new) }
     ensures images { After D.Disk KeepsFiles disk.old disk.new }
     ensures elsewhere { After D.Disk (OnlyLedgers named) disk.old disk.new }
@@ -64,8 +69,11 @@ fn open_topic<D: Disk, L: ledger::Ledger>(
     ensures opened { IfOk result (λ t. IsTopic limits.now part t × IsTrue t.whole) }
     ensures backed { IfOk result (λ t. Stored (D.image disk.new) t.content) }
     ensures told { D.tells → IfOk result (λ t. IsTopicOf t (D.seen disk.old (ledger_file part))) }
-    ensures damaged { (file : FileId) (entry : ℕ) → result ≡ Err (EngineError.Damaged file entry) → (file ≡ ledger_file part) × (D.tells → IsDamagedTopic (D.seen disk.old (ledger_file part)) entry) }
-    ensures uncut { D.tells → KeepsDamaged (D.seen disk.old (ledger_file part)) (D.seen disk.new (ledger_file part)) }
+    ensures damaged { (file : FileId) (entry : ℕ) → result ≡ Err (EngineError.Damaged file entry) →
+        (file ≡ ledger_file part) × (D.tells →
+        IsDamagedTopic (D.seen disk.old (ledger_file part)) entry) }
+    ensures uncut { D.tells →
+        KeepsDamaged (D.seen disk.old (ledger_file part)) (D.seen disk.new (ledger_file part)) }
     ensures images { After D.Disk (Changes (ledger_file part) KeepsFile) disk.old disk.new }
     ensures others { Elsewhere (ledger_file part) (D.seen disk.old) (D.seen disk.new) }
     ensures cause { FaultsIn D.Disk part disk.old disk.new (result ≡ Err EngineError.Fault) }

@@ -16,14 +16,14 @@ returns-in-Err-clause-sink g c is told tied =
     let bs = c.args.bytes.now in
     let i = c.loop-byte.byte-index in
     breaks_along c.args.limits.now _ bs _ _ _ _ _ (whole bs i c.loop-byte-test.true)
-    (goes_breaks c.args.limits.now (take i bs) (get_or bs i 0 ∷ []) (drop (i + 1) bs) _ _ _ _ _ _ _ _ (c.loop-byte.invariant.so told tied) (c.in-Err.ensures.sink is told (c.loop-byte.invariant.serves.tied tied)))
+    (goes_breaks c.args.limits.now (take i bs) (get_or bs i 0 ∷ []) (drop (i + 1) bs) _ _ _ _ _ _ _ _ (c.loop-byte.invariant.so told tied) (c.in-Err.ensures.sink is told (c.loop-byte.invariant.serves.tied told tied)))
 
 pub returns-in-Err-clause-disk : goal.returns-in-Err-clause-disk
 returns-in-Err-clause-disk g c is told tied =
     let bs = c.args.bytes.now in
     let i = c.loop-byte.byte-index in
     stops_along c.args.limits.now _ bs _ _ _ _ _ (whole bs i c.loop-byte-test.true)
-    (goes_stops c.args.limits.now (take i bs) (get_or bs i 0 ∷ []) (drop (i + 1) bs) _ _ _ _ _ _ _ _ (c.loop-byte.invariant.so told tied) (c.in-Err.ensures.disk is told (c.loop-byte.invariant.serves.tied tied)))
+    (goes_stops c.args.limits.now (take i bs) (get_or bs i 0 ∷ []) (drop (i + 1) bs) _ _ _ _ _ _ _ _ (c.loop-byte.invariant.so told tied) (c.in-Err.ensures.disk is told (c.loop-byte.invariant.serves.tied told tied)))
 
 pub loop-byte-preserved : goal.loop-byte-preserved
 loop-byte-preserved g c =
@@ -37,7 +37,7 @@ loop-byte-preserved g c =
       tells = tells_then g.O.Sink (Ok tt) (Ok tt) _ _ _ was.tells now.tells;
       whole = now.whole;
       serves = serves_then g.D.Disk was.serves (serves_as g.D.Disk (λ none. absurd none) now.serves);
-      so = λ told tied. goes_along c.args.limits.now _ (take (i + 1) bs) _ _ _ _ _ _ (sym (more bs i c.loop-byte-test.true)) (goes_then c.args.limits.now (take i bs) (get_or bs i 0 ∷ []) _ _ _ _ _ _ _ _ _ (was.so told tied) (now.ok refl told (was.serves.tied tied)));
+      so = λ told tied. goes_along c.args.limits.now _ (take (i + 1) bs) _ _ _ _ _ _ (sym (more bs i c.loop-byte-test.true)) (goes_then c.args.limits.now (take i bs) (get_or bs i 0 ∷ []) _ _ _ _ _ _ _ _ _ (was.so told tied) (now.ok refl told (was.serves.tied told tied)));
     }
 
 pub returns-clause-ok : goal.returns-clause-ok

@@ -21,17 +21,17 @@ returns-in-Err-clause-taken g c =
 pub returns-in-Ok-finish-clause-answers : goal.returns-in-Ok-finish-clause-answers
 returns-in-Ok-finish-clause-answers g c told tied =
     let e = reads_end c.args.limits.now _ _ _ c.loop-taken.taken c.loop-taken.pending _ _ _ _ c.take_into.new.chunk c.in-Ok.count c.if-count-eq0.true (c.loop-taken.invariant.so told tied) c.in-Ok.ensures.bytes.0 in
-    (e.0, e.1, (c.in-Ok.ensures.bytes.1 c.if-count-eq0.true (omega (arith, c.min-most.ensures, c.loop-taken-test.true)), omega (arith, e.2, c.loop-taken-test.true), all_rebuilt _ c.in-Ok-finish.ensures.whole, c.in-Ok-finish.ensures.ok refl told (c.loop-taken.invariant.serves.tied tied) _ _ e.0 e.3))
+    (e.0, e.1, (c.in-Ok.ensures.bytes.1 c.if-count-eq0.true (omega (arith, c.min-most.ensures, c.loop-taken-test.true)), omega (arith, e.2, c.loop-taken-test.true), all_rebuilt _ c.in-Ok-finish.ensures.whole, c.in-Ok-finish.ensures.ok refl told (c.loop-taken.invariant.serves.tied told tied) _ _ e.0 e.3))
 
 pub returns-in-Err-Sink-clause-answers : goal.returns-in-Err-Sink-clause-answers
 returns-in-Err-Sink-clause-answers g c told tied =
     let e = reads_end c.args.limits.now _ _ _ c.loop-taken.taken c.loop-taken.pending _ _ _ _ c.take_into.new.chunk c.in-Ok.count c.if-count-eq0.true (c.loop-taken.invariant.so told tied) c.in-Ok.ensures.bytes.0 in
-    (e.0, e.1, (omega (arith, e.2, c.loop-taken-test.true), lines_of e.0, inr (c.in-Ok.ensures.bytes.1 c.if-count-eq0.true (omega (arith, c.min-most.ensures, c.loop-taken-test.true)), omega (arith, e.2, c.loop-taken-test.true), refl), c.in-Err-Sink.ensures.sink (ap Err c.in-Err-Sink.field-0-is) told (c.loop-taken.invariant.serves.tied tied) _ _ e.0 e.3))
+    (e.0, e.1, (omega (arith, e.2, c.loop-taken-test.true), lines_of e.0, inr (c.in-Ok.ensures.bytes.1 c.if-count-eq0.true (omega (arith, c.min-most.ensures, c.loop-taken-test.true)), omega (arith, e.2, c.loop-taken-test.true), refl), c.in-Err-Sink.ensures.sink (ap Err c.in-Err-Sink.field-0-is) told (c.loop-taken.invariant.serves.tied told tied) _ _ e.0 e.3))
 
 pub returns-in-Err-Disk-clause-answers : goal.returns-in-Err-Disk-clause-answers
 returns-in-Err-Disk-clause-answers g c told tied =
     let e = reads_end c.args.limits.now _ _ _ c.loop-taken.taken c.loop-taken.pending _ _ _ _ c.take_into.new.chunk c.in-Ok.count c.if-count-eq0.true (c.loop-taken.invariant.so told tied) c.in-Ok.ensures.bytes.0 in
-    (e.0, e.1, (omega (arith, e.2, c.loop-taken-test.true), lines_of e.0, inr (c.in-Ok.ensures.bytes.1 c.if-count-eq0.true (omega (arith, c.min-most.ensures, c.loop-taken-test.true)), omega (arith, e.2, c.loop-taken-test.true), refl), c.in-Err-Disk.ensures.disk (ap Err c.in-Err-Disk.field-0-is) told (c.loop-taken.invariant.serves.tied tied) _ _ e.0 e.3))
+    (e.0, e.1, (omega (arith, e.2, c.loop-taken-test.true), lines_of e.0, inr (c.in-Ok.ensures.bytes.1 c.if-count-eq0.true (omega (arith, c.min-most.ensures, c.loop-taken-test.true)), omega (arith, e.2, c.loop-taken-test.true), refl), c.in-Err-Disk.ensures.disk (ap Err c.in-Err-Disk.field-0-is) told (c.loop-taken.invariant.serves.tied told tied) _ _ e.0 e.3))
 
 pub loop-taken-init : goal.loop-taken-init
 loop-taken-init g c = record {
@@ -67,7 +67,7 @@ loop-taken-preserved g c =
       whole = now.whole;
       serves = serves_then g.D.Disk was.serves (serves_as g.D.Disk (λ none. absurd none) now.serves);
       came = came_more _ _ _ was.came.0 bytes c.loop-taken.taken c.in-Ok.count was.came.1 was.came.2 c.in-Ok.ensures.bytes.0 long;
-      so = λ told tied. reads_more c.args.limits.now _ _ _ c.loop-taken.taken c.loop-taken.pending _ _ _ bytes c.in-Ok.count _ c.feed.new.pending _ _ (was.so told tied) c.in-Ok.ensures.bytes.0 long (now.ok refl told (was.serves.tied tied));
+      so = λ told tied. reads_more c.args.limits.now _ _ _ c.loop-taken.taken c.loop-taken.pending _ _ _ bytes c.in-Ok.count _ c.feed.new.pending _ _ (was.so told tied) c.in-Ok.ensures.bytes.0 long (now.ok refl told (was.serves.tied told tied));
     }
 
 pub returns-in-Err-Sink-feed-clause-answers : goal.returns-in-Err-Sink-feed-clause-answers
@@ -75,7 +75,7 @@ returns-in-Err-Sink-feed-clause-answers g c told tied =
     let bytes = take c.in-Ok.count c.take_into.new.chunk in
     let long : length bytes ≡ c.in-Ok.count = omega (arith, length-take c.in-Ok.count c.take_into.new.chunk, c.in-Ok.ensures.bound, c.min-most.ensures, c.take_into.auto.chunk) in
     let within : c.loop-taken.taken + c.in-Ok.count ≤ c.args.limits.now.input = omega (arith, c.in-Ok.ensures.bound, c.min-most.ensures) in
-    reads_broken c.args.limits.now c.args.limits.now.input _ _ _ c.loop-taken.taken c.loop-taken.pending _ _ _ bytes c.in-Ok.count _ _ _ (c.loop-taken.invariant.so told tied) c.in-Ok.ensures.bytes.0 long within (c.in-Err-Sink-feed.ensures.sink (ap Err c.in-Err-Sink-feed.field-0-is) told (c.loop-taken.invariant.serves.tied tied))
+    reads_broken c.args.limits.now c.args.limits.now.input _ _ _ c.loop-taken.taken c.loop-taken.pending _ _ _ bytes c.in-Ok.count _ _ _ (c.loop-taken.invariant.so told tied) c.in-Ok.ensures.bytes.0 long within (c.in-Err-Sink-feed.ensures.sink (ap Err c.in-Err-Sink-feed.field-0-is) told (c.loop-taken.invariant.serves.tied told tied))
 
 pub returns-in-Err-Sink-feed-clause-taken : goal.returns-in-Err-Sink-feed-clause-taken
 returns-in-Err-Sink-feed-clause-taken g c =
@@ -90,7 +90,7 @@ returns-in-Err-Disk-feed-clause-answers g c told tied =
     let bytes = take c.in-Ok.count c.take_into.new.chunk in
     let long : length bytes ≡ c.in-Ok.count = omega (arith, length-take c.in-Ok.count c.take_into.new.chunk, c.in-Ok.ensures.bound, c.min-most.ensures, c.take_into.auto.chunk) in
     let within : c.loop-taken.taken + c.in-Ok.count ≤ c.args.limits.now.input = omega (arith, c.in-Ok.ensures.bound, c.min-most.ensures) in
-    reads_stopped c.args.limits.now c.args.limits.now.input _ _ _ c.loop-taken.taken c.loop-taken.pending _ _ _ bytes c.in-Ok.count _ _ _ (c.loop-taken.invariant.so told tied) c.in-Ok.ensures.bytes.0 long within (c.in-Err-Disk-feed.ensures.disk (ap Err c.in-Err-Disk-feed.field-0-is) told (c.loop-taken.invariant.serves.tied tied))
+    reads_stopped c.args.limits.now c.args.limits.now.input _ _ _ c.loop-taken.taken c.loop-taken.pending _ _ _ bytes c.in-Ok.count _ _ _ (c.loop-taken.invariant.so told tied) c.in-Ok.ensures.bytes.0 long within (c.in-Err-Disk-feed.ensures.disk (ap Err c.in-Err-Disk-feed.field-0-is) told (c.loop-taken.invariant.serves.tied told tied))
 
 pub returns-in-Err-Disk-feed-clause-taken : goal.returns-in-Err-Disk-feed-clause-taken
 returns-in-Err-Disk-feed-clause-taken g c =

@@ -3,6 +3,7 @@ use Rattle.std.proofs.KnownBytes.{Keeps-refl}
 use Rattle.txn_model.specs.Replies.{RunState}
 use Rattle.txn_model.specs.Sound.{StandsFor}
 use Rattle.txn_engine.specs.Files.{AreJustFrames}
+use Rattle.txn_engine.specs.Told.{IsSure}
 use Rattle.txn_run.specs.Going.{run_state}
 use Rattle.txn_run.specs.Run.{Ended, IsEarly, IsAnswered, IsAtRest, first_run_state}
 use Rattle.txn_engine.proofs.Laws.{files_then, lists_files, lists_worlds, part_just, just_frames, opened_lawful}
@@ -15,12 +16,13 @@ use Rattle.txn_run.proofs.program.run_over.Goals as goal
 pub returns-in-Ok-open_disk-clause-images : goal.returns-in-Ok-open_disk-clause-images
 returns-in-Ok-open_disk-clause-images g c =
     let opened = c.in-Ok-open_disk.ensures.opened in
-    running_above g.D.Disk c.args.names.items _ c.args.disk.now c.open_disk.new.disk c.run_in.new.disk
-    (λ image at w stands lawful. (
-      c.in-Ok-open_disk.ensures.tied (g.met.D.Disk.image_is_told _ image at),
-      opened_lawful c.in-Ok-open_disk.engine c.in-Ok-open_disk.ensures.kept opened.3 (g.D.Disk.image c.open_disk.new.disk) c.in-Ok-open_disk.ensures.backed image at w
-          (subst (λ (ns : List (List ℕ)). StandsFor ns image w) (sym opened.0) stands) lawful,
-    ))
+    running_above g.D.Disk c.args.names.items (IsSure g.D.Disk c.in-Ok-open_disk.engine) c.args.disk.now c.open_disk.new.disk c.run_in.new.disk
+    (λ image at w stands lawful. record {
+      told = g.met.D.Disk.image_is_told _ image at;
+      tied = c.in-Ok-open_disk.ensures.tied (g.met.D.Disk.image_is_told _ image at);
+      lawful = opened_lawful c.in-Ok-open_disk.engine c.in-Ok-open_disk.ensures.kept opened.3 (g.D.Disk.image c.open_disk.new.disk) c.in-Ok-open_disk.ensures.backed image at w
+          (subst (λ (ns : List (List ℕ)). StandsFor ns image w) (sym opened.0) stands) lawful;
+    })
     c.in-Ok-open_disk.engine.names c.in-Ok-open_disk.ensures.opened.0 c.in-Ok-open_disk.ensures.images c.run_in.ensures.serves.images
 
 pub returns-in-Ok-open_disk-clause-answers : goal.returns-in-Ok-open_disk-clause-answers

@@ -1,5 +1,5 @@
 use Rattle.std.proofs.Common.{rules}
-use Rattle.txn_engine.proofs.Decided.{engine_clause, decided_clause, ready_clause, granted_clause, settled_clause, refused_clause, goes_clause}
+use Rattle.txn_engine.proofs.Decided.{engine_clause, decided_clause, whole_clause, ready_clause, granted_clause, settled_clause, refused_clause, goes_clause}
 use Rattle.txn_engine.proofs.Reading.{rose_at}
 use Rattle.txn_engine.proofs.engine.Engine.decide.Goals as goal
 
@@ -25,6 +25,10 @@ returns-clause-settled g c = λ tells tied.
 pub returns-clause-decided : goal.returns-clause-decided
 returns-clause-decided g c =
     decided_clause _ c.self.invariant _ c.self.view_is c.requires.whole c.args.txn c.args.decision (search rules) c.decide.result c.decide.new.self c.decide.ensures.refused c.decide.ensures.repeated c.decide.ensures.ok c.decide.ensures.fault c.decide.ensures.same
+
+pub returns-clause-whole : goal.returns-clause-whole
+returns-clause-whole g c =
+    whole_clause _ c.self.invariant _ c.self.view_is c.requires.whole c.args.txn c.args.decision (search rules) c.decide.result c.decide.new.self c.decide.ensures.refused c.decide.ensures.repeated c.decide.ensures.ok c.decide.ensures.fault c.decide.ensures.same
 
 pub returns-clause-ready : goal.returns-clause-ready
 returns-clause-ready g c = λ ready.

@@ -21,7 +21,7 @@ returns-in-Ok-clause-told g c = λ tells tied now.
     let went = c.in-Ok.ensures.goes in
     ended_told _ _ (g.D.Disk.part_faults c.args.disk.now) (g.D.Disk.part_faults c.drive.new.disk) c.args.self.now c.args.txn c.args.decision now (c.in-Ok.ensures.granted tells tied) c.decide.new.self c.drive.new.self (c.in-Ok.ensures.settled tells tied) _
     (λ p grew. rose_later p _ _ _ (g.D.Disk.part_faults c.args.disk.now) (g.D.Disk.part_faults c.decide.new.disk) (g.D.Disk.part_faults c.drive.new.disk) went.cause.later (went.cause.parts_later p) grew)
-    c.drive.result (c.drive.ensures.told tells (went.tied tied))
+    c.drive.result (c.drive.ensures.told tells (went.tied tells tied))
 
 pub returns-in-Ok-clause-goes : goal.returns-in-Ok-clause-goes
 returns-in-Ok-clause-goes g c =

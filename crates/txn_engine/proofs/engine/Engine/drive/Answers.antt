@@ -33,7 +33,7 @@ returns-then-is_err-clause-told g c = λ tells tied.
     close_fault_told c.args.self.now c.is_closed.ensures.kept c.requires.whole.coord tied c.args.txn c.args.decision c.requires.decided _ _ (g.D.Disk.part_faults c.args.disk.now) (g.D.Disk.part_faults c.close.new.disk)
     c.is_closed.result c.is_closed.ensures.value c.if-is_closed.false (table_of c.mark_all.new.self) (c.in_default.ensures.ok tells tied) c.stuck-then-is_err.result (table_of c.close.new.self) c.stuck-then-is_err.ensures
     (rose_later 0 _ _ _ (g.D.Disk.part_faults c.args.disk.now) (g.D.Disk.part_faults c.mark_all.new.disk) (g.D.Disk.part_faults c.close.new.disk) c.in_default.ensures.goes.cause.later (c.in_default.ensures.goes.cause.parts_later 0) (from_ok_err c.close.result _ (sym c.is_err.ensures.value ∙ c.if-is_err.true) c.close.ensures.rose))
-    (from_ok_err c.close.result _ (sym c.is_err.ensures.value ∙ c.if-is_err.true) (c.close.ensures.err c.args.decision (decided_after _ _ c.in_default.ensures.coord c.args.txn c.args.decision c.requires.decided) tells (c.in_default.ensures.goes.tied tied)))
+    (from_ok_err c.close.result _ (sym c.is_err.ensures.value ∙ c.if-is_err.true) (c.close.ensures.err c.args.decision (decided_after _ _ c.in_default.ensures.coord c.args.txn c.args.decision c.requires.decided) tells (c.in_default.ensures.goes.tied tells tied)))
 
 pub returns-then-is_err-clause-tellable : goal.returns-then-is_err-clause-tellable
 returns-then-is_err-clause-tellable g c = subst IsTellableEnd (sym c.stuck-then-is_err.ensures) coordinator_name
@@ -48,7 +48,7 @@ pub returns-clause-told : goal.returns-clause-told
 returns-clause-told g c = λ tells tied.
     closes_told c.args.self.now c.is_closed.ensures.kept c.requires.whole.coord tied c.args.txn c.args.decision c.requires.decided _ _ (g.D.Disk.part_faults c.args.disk.now) (g.D.Disk.part_faults c.close.new.disk)
     c.is_closed.result c.is_closed.ensures.value c.if-is_closed.false (table_of c.mark_all.new.self) (c.in_default.ensures.ok tells tied) c.closed-2.result (table_of c.close.new.self) c.closed-2.ensures
-    (from_is_ok c.close.result _ (c.is_err.ensures.negation ∙ ap not c.if-is_err.false) (c.close.ensures.ok c.args.decision (decided_after _ _ c.in_default.ensures.coord c.args.txn c.args.decision c.requires.decided) tells (c.in_default.ensures.goes.tied tied)))
+    (from_is_ok c.close.result _ (c.is_err.ensures.negation ∙ ap not c.if-is_err.false) (c.close.ensures.ok c.args.decision (decided_after _ _ c.in_default.ensures.coord c.args.txn c.args.decision c.requires.decided) tells (c.in_default.ensures.goes.tied tells tied)))
 
 pub returns-clause-goes : goal.returns-clause-goes
 returns-clause-goes g c =

@@ -9,24 +9,24 @@ use Rattle.txn_engine.proofs.engine.Engine.mark_all.Goals.{else-has_part-via-the
 
 pub loop-at-init : goal.loop-at-init
 loop-at-init g c =
-    loop_starts g.D.Disk g.D.Disk.tells c.args.txn c.args.decision c.args.self.now c.args.disk.now (subst IsEngine c.self.view_is c.self.invariant) c.requires.whole c.requires.ready c.requires.backed
+    loop_starts g.D.Disk c.args.txn c.args.decision c.args.self.now c.args.disk.now (subst IsEngine c.self.view_is c.self.invariant) c.requires.whole c.requires.ready c.requires.backed
 
 pub mark-requires-clause-reserved : goal.mark-requires-clause-reserved
 mark-requires-clause-reserved g c =
-    loop_reserved g.D.Disk g.D.Disk.tells c.args.txn c.args.decision c.args.self.now c.loop-at.self c.args.disk.now c.loop-at.disk c.loop-at.at c.loop-at.invariant
+    loop_reserved g.D.Disk c.args.txn c.args.decision c.args.self.now c.loop-at.self c.args.disk.now c.loop-at.disk c.loop-at.at c.loop-at.invariant
     (below_at _ _ c.self-in-loop-at.view_is c.len.result c.loop-at.at (c.len.ensures ∙ search rules) c.loop-at-test.true)
     (parts_at _ _ c.self.view_is c.args.txn c.parts-parts.result c.loop-at.at c.has_part.result c.parts-parts.ensures c.has_part.ensures ∙ c.if-has_part.true)
 
 pub returns-then-is_err-clause-err : goal.returns-then-is_err-clause-err
 returns-then-is_err-clause-err g c = λ tells tied.
-    loop_stops g.D.Disk g.D.Disk.tells c.args.txn c.args.decision c.args.self.now c.loop-at.self c.args.disk.now c.loop-at.disk c.loop-at.at c.loop-at.invariant
+    loop_stops g.D.Disk c.args.txn c.args.decision c.args.self.now c.loop-at.self c.args.disk.now c.loop-at.disk c.loop-at.at c.loop-at.invariant
     (below_at _ _ c.self-in-loop-at.view_is c.len.result c.loop-at.at (c.len.ensures ∙ search rules) c.loop-at-test.true)
     (parts_at _ _ c.self.view_is c.args.txn c.parts-parts.result c.loop-at.at c.has_part.result c.parts-parts.ensures c.has_part.ensures ∙ c.if-has_part.true)
     c.mark.new.self c.mark.new.disk c.mark.result c.mark.ensures.elsewhere c.mark.ensures.goes (sym c.is_err.ensures.value ∙ c.if-is_err.true) c.mark.ensures.err c.mark.ensures.rose tells tied
 
 pub returns-then-is_err-clause-goes : goal.returns-then-is_err-clause-goes
 returns-then-is_err-clause-goes g c =
-    loop_fails g.D.Disk g.D.Disk.tells c.args.txn c.args.decision c.args.self.now c.loop-at.self c.args.disk.now c.loop-at.disk c.loop-at.at c.loop-at.invariant
+    loop_fails g.D.Disk c.args.txn c.args.decision c.args.self.now c.loop-at.self c.args.disk.now c.loop-at.disk c.loop-at.at c.loop-at.invariant
     (below_at _ _ c.self-in-loop-at.view_is c.len.result c.loop-at.at (c.len.ensures ∙ search rules) c.loop-at-test.true)
     (parts_at _ _ c.self.view_is c.args.txn c.parts-parts.result c.loop-at.at c.has_part.result c.parts-parts.ensures c.has_part.ensures ∙ c.if-has_part.true)
     c.mark.new.self c.mark.new.disk c.mark.result c.mark.ensures.elsewhere c.mark.ensures.goes (sym c.is_err.ensures.value ∙ c.if-is_err.true) _ refl
@@ -35,21 +35,21 @@ pub loop-at-preserved : goal.loop-at-preserved
 loop-at-preserved g c =
     elim c.else-has_part.branch [
       | else-has_part-via-then-has_part+else-is_err w ↦
-          loop_at g.D.Disk g.D.Disk.tells c.args.txn c.args.decision c.args.self.now _ c.else-has_part.self c.args.disk.now _ c.else-has_part.disk _ w.self-is w.disk-is
-          (loop_marks g.D.Disk g.D.Disk.tells c.args.txn c.args.decision c.args.self.now c.loop-at.self c.args.disk.now c.loop-at.disk c.loop-at.at c.loop-at.invariant
+          loop_at g.D.Disk c.args.txn c.args.decision c.args.self.now _ c.else-has_part.self c.args.disk.now _ c.else-has_part.disk _ w.self-is w.disk-is
+          (loop_marks g.D.Disk c.args.txn c.args.decision c.args.self.now c.loop-at.self c.args.disk.now c.loop-at.disk c.loop-at.at c.loop-at.invariant
           (below_at _ _ c.self-in-loop-at.view_is c.len.result c.loop-at.at (c.len.ensures ∙ search rules) c.loop-at-test.true)
           (parts_at _ _ c.self.view_is c.args.txn c.parts-parts.result c.loop-at.at c.has_part.result c.parts-parts.ensures c.has_part.ensures ∙ w.if-has_part.true)
           w.mark.new.self w.mark.new.disk w.mark.result w.mark.ensures.elsewhere w.mark.ensures.goes (w.is_err.ensures.negation ∙ ap not w.if-is_err.false) w.mark.ensures.ok w.mark.ensures.marked)
       | else-has_part-via-else-has_part w ↦
-          loop_at g.D.Disk g.D.Disk.tells c.args.txn c.args.decision c.args.self.now _ c.else-has_part.self c.args.disk.now _ c.else-has_part.disk _ w.self-is w.disk-is
-          (loop_skips g.D.Disk g.D.Disk.tells c.args.txn c.args.decision c.args.self.now c.loop-at.self c.args.disk.now c.loop-at.disk c.loop-at.at c.loop-at.invariant
+          loop_at g.D.Disk c.args.txn c.args.decision c.args.self.now _ c.else-has_part.self c.args.disk.now _ c.else-has_part.disk _ w.self-is w.disk-is
+          (loop_skips g.D.Disk c.args.txn c.args.decision c.args.self.now c.loop-at.self c.args.disk.now c.loop-at.disk c.loop-at.at c.loop-at.invariant
           (below_at _ _ c.self-in-loop-at.view_is c.len.result c.loop-at.at (c.len.ensures ∙ search rules) c.loop-at-test.true)
           (parts_at _ _ c.self.view_is c.args.txn c.parts-parts.result c.loop-at.at c.has_part.result c.parts-parts.ensures c.has_part.ensures ∙ w.if-has_part.false))
     ]
 
 pub returns-clause-ok : goal.returns-clause-ok
 returns-clause-ok g c = λ tells tied.
-    loop_ends g.D.Disk g.D.Disk.tells c.args.txn c.args.decision c.args.self.now c.loop-at.self c.args.disk.now c.loop-at.disk c.loop-at.at _ c.loop-at.invariant
+    loop_ends g.D.Disk c.args.txn c.args.decision c.args.self.now c.loop-at.self c.args.disk.now c.loop-at.disk c.loop-at.at _ c.loop-at.invariant
     (subst IsEngine c.self.view_is c.self.invariant).coord.lawful (sym (subst IsEngine c.self.view_is c.self.invariant).count) (past_at _ _ c.self-in-loop-at.view_is c.len.result c.loop-at.at (c.len.ensures ∙ search rules) c.loop-at-test.false) tells tied
 
 pub returns-then-is_err-clause-rose : goal.returns-then-is_err-clause-rose
@@ -66,5 +66,5 @@ mark-requires-clause-whole g c =
 
 pub returns-clause-marked : goal.returns-clause-marked
 returns-clause-marked g c =
-    loop_given g.D.Disk g.D.Disk.tells c.args.txn c.args.decision c.args.self.now c.loop-at.self c.args.disk.now c.loop-at.disk c.loop-at.at c.loop-at.invariant
+    loop_given g.D.Disk c.args.txn c.args.decision c.args.self.now c.loop-at.self c.args.disk.now c.loop-at.disk c.loop-at.at c.loop-at.invariant
     (past_at _ _ c.self-in-loop-at.view_is c.len.result c.loop-at.at (c.len.ensures ∙ search rules) c.loop-at-test.false)
