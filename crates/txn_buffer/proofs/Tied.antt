@@ -3,6 +3,7 @@ use Rattle.std.proofs.Common.{◌≡◌, ℕ, ◌+◌, ◌<◌, ◌≤◌, get_o
 use Rattle.std.specs.Prelude.{All}
 use Rattle.std.proofs.lemmas.List.{get_or-take, append-nil}
 use Rattle.std.proofs.lemmas.List.Elements.{All-nil}
+use Rattle.std.proofs.lemmas.List.{take_all}
 use Rattle.txn_base.specs.declared.entry.TopicEntry.{TopicEntry}
 use Rattle.txn_base.specs.Decoded.{topic_entry_of, topic_entries}
 use Rattle.txn_base.specs.Frames.{Record, Batch, records}
@@ -54,3 +55,6 @@ tied_settled v k within how tied =
 -- so many records with a batch more
 pub records_after : (batches : List Batch) (batch : Batch) → length (records (batches ++ batch ∷ [])) ≡ length (records batches) + length batch
 records_after batches batch = ap length (records-push batches batch) ∙ length-append (records batches) batch
+
+pub extends_same : (front now : List TopicEntry) → now ≡ front → front ≡ take (length front) now
+extends_same front now same = sym (ap (take (length front)) same ∙ take_all (length front) front (omega arith))

@@ -1,5 +1,5 @@
 -- What a step of a replay does.
-use Rattle.std.specs.Prelude.{◌≡◌, ◌⊎◌, ℕ, ◌+◌, ◌-◌, ◌<◌, ◌≤◌, ◌==◌, min, false, List, [], ◌++◌, length, take, All, slice_index_or}
+use Rattle.std.specs.Prelude.{◌≡◌, ◌⊎◌, ℕ, ◌+◌, ◌-◌, ◌<◌, ◌≤◌, ◌==◌, min, false, List, [], ◌++◌, length, take, All, slice_index_or, IsTrue}
 use Rattle.txn_base.specs.declared.entry.TopicEntry.{TopicEntry}
 use Rattle.txn_base.specs.declared.part.Progress.{Progress}
 use Rattle.txn_base.specs.Content.{settled}
@@ -33,6 +33,25 @@ pub record Mends (before after : TopicView) (told : Progress) : Type 0 where
 -- A refused step leaves all but the content.
 pub record IsRefusedStep (before after : TopicView) : Type 0 where
   pub front : after.front ≡ before.front
+  pub part : after.part ≡ before.part
+  pub whole : after.whole ≡ before.whole
+  pub reserved : after.reserved ≡ before.reserved
+  pub limits : after.limits ≡ before.limits
+
+-- A recovery to the end: the list is settled, the front is that of all records, and the topic is whole.
+pub record MendsWhole (before after : TopicView) : Type 0 where
+  pub settled_now : after.content.standing ≡ settled
+  pub more : List TopicEntry
+  pub front : after.front ≡ before.front ++ more
+  pub all : length after.front ≡ topic_total after
+  pub whole : IsTrue after.whole
+  pub part : after.part ≡ before.part
+  pub reserved : after.reserved ≡ before.reserved
+  pub limits : after.limits ≡ before.limits
+
+-- One that is refused leaves what its steps added to the front, and all else but the content.
+pub record IsRefusedWhole (before after : TopicView) : Type 0 where
+  pub extends : before.front ≡ take (length before.front) after.front
   pub part : after.part ≡ before.part
   pub whole : after.whole ≡ before.whole
   pub reserved : after.reserved ≡ before.reserved
