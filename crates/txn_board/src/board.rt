@@ -299,7 +299,8 @@ impl<T: Promise, N: Naming> Board<T, N> {
     /// they have in flight.
     pub fn close_with(self, seat: BoardSeat<N>)
         requires { (p : ℕ) → p < length N.lists → HasSeatRow p seat.rows }
-        ensures { T.made → (stays : ℕ → Bool) → AreLawful (parts_in N.lists) (kept_rows seat.rows stays) }
+        ensures { T.made → (stays : ℕ → Bool) →
+            AreLawful (parts_in N.lists) (kept_rows seat.rows stays) }
     {
         let Board {
             table,

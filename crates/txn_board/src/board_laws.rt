@@ -28,11 +28,16 @@ use crate::board::Promise;
 /// they make its status.
 pub fn bits_are_what_the_lists_say()
     ensures begun { OfAnyLists (λ lists x. tells lists x Registered 0 ≡ has_new (lists 0) x) }
-    ensures parts { OfAnyLists (λ lists x. (p : ℕ) → tells lists x Registered (p + 1) ≡ in_parts (lists 0) x (p + 1)) }
-    ensures commit { OfLawfulLogs (λ lists x. tells lists x Decided 0 ≡ is_decision (decision_of (lists 0) x) Commit) }
-    ensures abort { OfLawfulLogs (λ lists x. tells lists x Decided 1 ≡ is_decision (decision_of (lists 0) x) Abort) }
-    ensures closed { OfAnyLists (λ lists x. tells lists x Done 0 ≡ is_some (closing_of (lists 0) x)) }
-    ensures marked { OfAnyLists (λ lists x. (p : ℕ) → tells lists x Done (p + 1) ≡ is_some (marker_of (lists (p + 1)) x)) }
+    ensures parts { OfAnyLists (λ lists x. (p : ℕ) →
+        tells lists x Registered (p + 1) ≡ in_parts (lists 0) x (p + 1)) }
+    ensures commit { OfLawfulLogs (λ lists x. tells lists x Decided 0 ≡ is_decision
+        (decision_of (lists 0) x) Commit) }
+    ensures abort { OfLawfulLogs (λ lists x. tells lists x Decided 1 ≡ is_decision
+        (decision_of (lists 0) x) Abort) }
+    ensures closed { OfAnyLists (λ lists x. tells lists x Done 0 ≡ is_some
+        (closing_of (lists 0) x)) }
+    ensures marked { OfAnyLists (λ lists x. (p : ℕ) →
+        tells lists x Done (p + 1) ≡ is_some (marker_of (lists (p + 1)) x)) }
     ensures status { OfLawfulLogs (λ lists x. status_told lists x ≡ status_of (lists 0) x) }
     ensures decision { OfLawfulLogs (λ lists x. decision_told lists x ≡ decision_of (lists 0) x) }
 {}
@@ -40,13 +45,15 @@ pub fn bits_are_what_the_lists_say()
 /// Under the rule the state keeps what every step of the core keeps, and each of its lists begins with that of the opening.
 pub fn the_rule_has_a_core()
     ensures kept { AtEachMoment (λ lists s c. CoreInvariant (parts_in lists) c) }
-    ensures longer { AtEachMoment (λ lists s c. (p : ℕ) → IsPrefix (list_in lists p) (settled_of c p)) }
+    ensures longer { AtEachMoment (λ lists s c. (p : ℕ) →
+        IsPrefix (list_in lists p) (settled_of c p)) }
 {}
 
 /// What the rule says between any two steps: of the words; of the rows, each part's in one seat; of the transactions below the
 /// window and of those that are begun; and of the loads: their bits stay, and those of a decision show nothing or all of it.
 pub fn the_rule_in_full()
-    ensures words { AtEachMoment (λ lists s c. WordsSay (low_in lists) window s.words (settled_of c)) }
+    ensures words { AtEachMoment (λ lists s c. WordsSay (low_in lists) window s.words
+        (settled_of c)) }
     ensures two_bits { AtEachMoment (λ lists s c. TwoBitsDecide lists s) }
     ensures rows { AtEachMoment (λ lists s c. RowsAreCores lists s c) }
     ensures seated { AtEachMoment (λ lists s c. HaveSeats lists s) }
@@ -76,13 +83,16 @@ pub fn starts_are_core_steps<T: Promise>()
 
 /// The low watermark is the coordinator's, and a transaction that has a status and isn't closed lies in the window.
 pub fn the_watermark_is_the_coordinators()
-    ensures low { (n : ℕ) (c : List CoordEntry) → CoordLawful n (coord_skeletons c) → low_of_log (coord_skeletons c) ≡ low_of c }
-    ensures unclosed { AtEachMoment (λ lists s c. (x : ℕ) (st : Status) → IsStatusIn x (Some st) c → IsUnclosed st → IsIn (low_in lists) window x) }
+    ensures low { (n : ℕ) (c : List CoordEntry) → CoordLawful n (coord_skeletons c) →
+        low_of_log (coord_skeletons c) ≡ low_of c }
+    ensures unclosed { AtEachMoment (λ lists s c. (x : ℕ) (st : Status) → IsStatusIn x (Some st) c →
+        IsUnclosed st → IsIn (low_in lists) window x) }
 {}
 
 /// A transaction of which a reader is told a status that isn't closed lies in the window.
 pub fn an_open_one_lies_in_the_window<T: Promise>()
-    ensures { (lists : List (List CoreEntry)) (x : ℕ) (st : Status) → CanOpenBoard lists → IsUnclosed st → ToldWithin T.made lists x st }
+    ensures { (lists : List (List CoreEntry)) (x : ℕ) (st : Status) → CanOpenBoard lists →
+        IsUnclosed st → ToldWithin T.made lists x st }
 {}
 
 /// A load of a word in the window shows what the lists said on a board of the rule where a seat had the view of that load; and

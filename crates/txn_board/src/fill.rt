@@ -30,7 +30,8 @@ fn note(words: &mut [u64], count: u64, part: u32, entry: CoreEntry)
 fn note_list(words: &mut [u64], count: u64, part: u32, entries: &[CoreEntry])
     requires { length words.old ≡ 3 * count }
     ensures size { length words.new ≡ 3 * count }
-    ensures says { (lists : ℕ → List CoreEntry) → WordsSay 0 count words.old lists → WordsSay 0 count words.new (with_more lists part entries.now) }
+    ensures says { (lists : ℕ → List CoreEntry) → WordsSay 0 count words.old lists →
+        WordsSay 0 count words.new (with_more lists part entries.now) }
 {
     let mut at = 0;
     while at < entries.len() {
@@ -71,7 +72,9 @@ pub(crate) fn count_begun(log: &[CoreEntry]) -> u64
 /// The least number of a transaction that isn't closed, of those that a log begins, or their count.
 pub(crate) fn low_watermark(words: &[u64], begun: u64) -> u64
     requires size { 3 * begun ≤ length words.now }
-    ensures least { (lists : ℕ → List CoreEntry) (count : ℕ) → begun ≤ count → WordsSay 0 count words.now lists → begun ≡ count_new (lists 0) → result ≡ low_of_log (lists 0) }
+    ensures least { (lists : ℕ → List CoreEntry) (count : ℕ) → begun ≤ count →
+        WordsSay 0 count words.now lists → begun ≡ count_new (lists 0) →
+        result ≡ low_of_log (lists 0) }
     ensures most { result ≤ begun }
 {
     let mut low = 0;
@@ -100,7 +103,9 @@ pub(crate) fn words_of_lists(
     requires log { 1 ≤ length lists.now }
     requires few { length lists.now ≤ 63 }
     ensures low { IfOk result (λ r. r.1 ≡ low_of_log (list_in lists.now 0)) }
-    ensures says { IfOk result (λ r. ((count : ℕ) × (r.1 + window ≤ count) × WordsSay 0 count r.0.items (list_in lists.now))) }
+    ensures says { IfOk result
+        (λ r. ((count : ℕ) × (r.1 + window ≤ count) × WordsSay 0 count r.0.items
+        (list_in lists.now))) }
 {
     let begun = count_begun(lists[0].as_slice());
     let Some(count) = begun.checked_add(WINDOW) else {

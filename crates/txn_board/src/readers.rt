@@ -103,7 +103,8 @@ impl<T: Promise, N: Naming> Board<T, N> {
     /// Whether a part, from 1 to 63, is one of a transaction's.
     pub fn registered(&self, seat: &mut BoardSeat<N>, txn: u64, part: u32) -> bool
         ensures read { PartIsRead T.made N.lists txn part result seat.old seat.new }
-        ensures told { IsTold T.made N.lists txn seat.old seat.new (IsRegisteredIn txn part result) }
+        ensures told { IsTold T.made N.lists txn seat.old seat.new
+            (IsRegisteredIn txn part result) }
     {
         let reg = self.look(seat, txn, Word::Registered);
         part >= 1 && part < 64 && is_bit_set(reg, part)

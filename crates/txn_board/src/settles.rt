@@ -33,7 +33,9 @@ impl<T: Promise, N: Naming> Board<T, N> {
     fn bit_of(&self, mark: Option<Mark>) -> (usize, u64)
         requires { IfSome mark (λ m. m.bit < 64) }
         ensures place { result.0 < 3 * window }
-        ensures bits { (words : List ℕ) → length words ≡ 3 * window → slice_set words result.0 (bit_or (slice_index words result.0) result.1) ≡ with_mark (low_in N.lists) window mark words }
+        ensures bits { (words : List ℕ) → length words ≡ 3 * window →
+            slice_set words result.0 (bit_or (slice_index words result.0) result.1) ≡ with_mark
+            (low_in N.lists) window mark words }
     {
         let Some(mark) = mark else {
             return (0, 0);

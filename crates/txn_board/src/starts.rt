@@ -127,8 +127,10 @@ impl<T: Promise, N: Naming> Board<T, N> {
     /// that has none, and nothing starts; it is 0 where the transaction isn't in the window.
     pub fn start_close(&self, seat: &mut BoardSeat<N>, txn: u64) -> Result<(), u32>
         requires { T.made → MayClose (parts_in N.lists) txn seat.old }
-        ensures within { StartsClosingWithin T.made N.lists txn (result_err result) seat.old seat.new }
-        ensures outside { NothingOutside N.lists txn (result_err result ≡ Some 0) seat.old seat.new }
+        ensures within { StartsClosingWithin T.made N.lists txn
+            (result_err result) seat.old seat.new }
+        ensures outside { NothingOutside N.lists txn
+            (result_err result ≡ Some 0) seat.old seat.new }
     {
         let Some(registered) = self.place(txn, Word::Registered) else {
             return Err(0);

@@ -9,7 +9,6 @@ use Rattle.txn_model.specs.Skeletons.{topic_skeleton, topic_skeletons}
 use Rattle.txn_model.specs.Topic.{part_allows, TopicLawful}
 use Rattle.txn_buffer.specs.Record.{IsInGrammar, IsOutside}
 use Rattle.txn_buffer.specs.View.{TopicView, topic_total}
-
 -- What was in flight was settled, or nothing was.
 pub use Rattle.txn_replay.specs.Settling.{MayHaveSettled}
 

@@ -27,6 +27,7 @@ pub one_less : (n : ℕ) (xs : List TopicEntry) (e : TopicEntry) → TopicLawful
 one_less n xs e lawful =
     let sk = topic_skeletons xs in
     let all : (all_follow part_allows [] sk && (part_allows sk (topic_skeleton e) && true)) ≡ true =
-    sym (ap (all_follow part_allows []) (map-append topic_skeleton xs (e ∷ [])) ∙ all_follow-append part_allows [] sk (topic_skeleton e ∷ [])) ∙ lawful in
-    (and_l (all_follow part_allows [] sk) (part_allows sk (topic_skeleton e) && true) all,
-    and_l (part_allows sk (topic_skeleton e)) true (and_r (all_follow part_allows [] sk) (part_allows sk (topic_skeleton e) && true) all))
+    sym (ap (all_follow part_allows []) (map-append topic_skeleton xs (e ∷ [])) ∙ all_follow-append part_allows [] sk (topic_skeleton e ∷ [])) ∙ lawful in (
+      and_l (all_follow part_allows [] sk) (part_allows sk (topic_skeleton e) && true) all,
+      and_l (part_allows sk (topic_skeleton e)) true (and_r (all_follow part_allows [] sk) (part_allows sk (topic_skeleton e) && true) all),
+    )

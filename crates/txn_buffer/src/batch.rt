@@ -33,8 +33,10 @@ pub fn records_of(
     bodies: &[Bytes],
 ) -> Result<Vec<Bytes>, AllocError>
     requires { All IsPublished (contents_of bodies.now) }
-    ensures batch { IfOk result (λ batch. contents_of batch.items ≡ topic_batch (messages_of txn (contents_of bodies.now))) }
-    ensures entries { IfOk result (λ batch. map topic_entry_of (contents_of batch.items) ≡ messages_of txn (contents_of bodies.now)) }
+    ensures batch { IfOk result (λ batch. contents_of batch.items ≡ topic_batch
+        (messages_of txn (contents_of bodies.now))) }
+    ensures entries { IfOk result (λ batch. map topic_entry_of
+        (contents_of batch.items) ≡ messages_of txn (contents_of bodies.now)) }
     ensures grammar { IfOk result (λ batch. All IsInGrammar (contents_of batch.items)) }
 {
     let mut batch = Vec::new(alloc);

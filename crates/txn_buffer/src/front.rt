@@ -107,7 +107,8 @@ impl Front {
     /// Adds an entry.
     pub fn add(&mut self, added: &TopicRecord)
         requires count { length self.old.entries + 1 < 2 ^ 64 }
-        requires allowed { part_allows (topic_skeletons self.old.entries) (topic_skeleton added.now) ≡ true }
+        requires allowed { part_allows (topic_skeletons self.old.entries)
+            (topic_skeleton added.now) ≡ true }
         requires opens { opens_of added.now ≤ self.old.opens }
         requires ends { ends_of added.now ≤ self.old.ends }
         ensures entries { self.new.entries ≡ self.old.entries ++ added.now ∷ [] }
@@ -140,7 +141,8 @@ impl Front {
         requires unmarked { IsUnmarked self.old.entries txn }
         requires opens { opens_for txn (length batch.now) ≤ self.old.opens }
         requires each { All (IsMessageOf txn) (contents_of batch.now) }
-        ensures entries { self.new.entries ≡ self.old.entries ++ map topic_entry_of (contents_of batch.now) }
+        ensures entries { self.new.entries ≡ self.old.entries ++ map topic_entry_of
+            (contents_of batch.now) }
         ensures ends { self.old.ends ≤ self.new.ends }
     {
         let kind = kind_of(txn);
@@ -163,7 +165,8 @@ impl Front {
     fn add_message(&mut self, txn: TxnId, added: &TopicRecord)
         requires count { length self.old.entries + 1 < 2 ^ 64 }
         requires kind { topic_skeleton added.now ≡ core.Inside txn }
-        requires allowed { part_allows (topic_skeletons self.old.entries) (topic_skeleton added.now) ≡ true }
+        requires allowed { part_allows (topic_skeletons self.old.entries)
+            (topic_skeleton added.now) ≡ true }
         requires opens { 1 ≤ self.old.opens }
         ensures entries { self.new.entries ≡ self.old.entries ++ added.now ∷ [] }
         ensures opens { self.old.opens ≤ self.new.opens + 1 }
@@ -177,7 +180,8 @@ impl Front {
     fn add_marker(&mut self, txn: TxnId, decision: Decision, added: &TopicRecord)
         requires count { length self.old.entries + 1 < 2 ^ 64 }
         requires kind { topic_skeleton added.now ≡ core.Marker txn decision }
-        requires allowed { part_allows (topic_skeletons self.old.entries) (topic_skeleton added.now) ≡ true }
+        requires allowed { part_allows (topic_skeletons self.old.entries)
+            (topic_skeleton added.now) ≡ true }
         requires ends { 1 ≤ self.old.ends }
         ensures entries { self.new.entries ≡ self.old.entries ++ added.now ∷ [] }
         ensures opens { self.old.opens ≤ self.new.opens }
@@ -202,8 +206,10 @@ fn kind_of(txn: Option<TxnId>) -> CoreEntry
 
 /// Drops the messages at the front whose transaction is decided.
 fn drop_decided(decisions: &IndexMap<(u64, u64), Decision>, pending: &mut VecDeque<(u64, TxnId)>)
-    ensures pending { pending.new.items ≡ waiting (λ x. get same_key decisions.now (key_of x)) pending.old.items }
-    ensures room { deque_capacity pending.old - deque_len pending.old ≤ deque_capacity pending.new - deque_len pending.new }
+    ensures pending { pending.new.items ≡ waiting
+        (λ x. get same_key decisions.now (key_of x)) pending.old.items }
+    ensures room { deque_capacity pending.old - deque_len pending.old ≤ deque_capacity pending.new -
+        deque_len pending.new }
 {
     while let Some((_, txn)) = pending.front() {
         if decisions.get(&(txn.most, txn.least)).is_none() {
@@ -215,7 +221,8 @@ fn drop_decided(decisions: &IndexMap<(u64, u64), Decision>, pending: &mut VecDeq
 
 /// These batches, and the record behind them.
 fn joined(batches: &ContentCarrier, added: &TopicRecord) -> ContentCarrier
-    ensures entries { topic_entries result.content.batches ≡ topic_entries batches.now.content.batches ++ added.now ∷ [] }
+    ensures entries { topic_entries result.content.batches ≡ topic_entries
+        batches.now.content.batches ++ added.now ∷ [] }
     ensures grammar { IsTopicEntry added.now }
 {
     ContentCarrier::of::<(&ContentCarrier, &ContentCarrier), BothOf>(&(batches, &added.carrier))

@@ -63,7 +63,8 @@ fn reserve(front: &mut Front, count: usize) -> Result<(), AllocError>
 
 /// Whether a record is allowed after the front and those behind it.
 fn is_allowed(front: &Front, staged: &[TopicRecord], found: &TopicRecord) -> bool
-    ensures { result ≡ part_allows (topic_skeletons (front.now.entries ++ staged.now)) (topic_skeleton found.now) }
+    ensures { result ≡ part_allows (topic_skeletons (front.now.entries ++ staged.now))
+        (topic_skeleton found.now) }
 {
     match found.entry() {
         CoreEntry::Plain => true,

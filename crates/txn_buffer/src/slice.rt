@@ -19,7 +19,13 @@ pub struct Slice {
 
 impl Slice {
     pub fn new(alloc: Global, limits: &Limits, max: u64) -> Slice
-        ensures { result ≡ record { messages = []; spent = 0; left = min max limits.now.read_messages; bytes = limits.now.read_bytes } }
+        ensures { result ≡ record {
+          messages = [];
+          spent = 0;
+          left = min max
+              limits.now.read_messages;
+          bytes = limits.now.read_bytes;
+        } }
     {
         Slice {
             messages: Messages::new(alloc),
@@ -33,8 +39,12 @@ impl Slice {
     pub fn give(&mut self, message: Option<Message>) -> Result<bool, AllocError>
         requires { 1 ≤ self.old.left }
         ensures bytes { self.new.bytes ≡ self.old.bytes }
-        ensures goes_on { IfOk result (λ more. more ≡ true → ReadGoesOn message self.old.messages self.new.messages self.old.bytes self.old.spent self.old.left self.new.spent self.new.left) }
-        ensures cut { IfOk result (λ more. more ≡ false → IsCut message self.old.messages self.new.messages self.old.bytes self.old.spent self.old.left) }
+        ensures goes_on { IfOk result (λ more. more ≡ true →
+            ReadGoesOn message self.old.messages self.new.messages self.old.bytes self.old.spent
+            self.old.left self.new.spent self.new.left) }
+        ensures cut { IfOk result (λ more. more ≡ false →
+            IsCut message self.old.messages self.new.messages self.old.bytes self.old.spent
+            self.old.left) }
     {
         let Some(message) = message else {
             return Ok(true);

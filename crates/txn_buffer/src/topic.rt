@@ -49,7 +49,15 @@ impl<R: RecordLog> Topic<R> {
     /// A topic over a log, of which nothing was replayed yet.
     pub fn over(alloc: Global, log: R, part: u32, limits: &Limits) -> Result<Topic<R>, AllocError>
         requires { InRange limits.now }
-        ensures { IfOk result (λ t. t ≡ record { content = R.content log; front = []; part = part; whole = false; reserved = 0; limits = limits.now }) }
+        ensures { IfOk result
+            (λ t. t ≡ record {
+              content = R.content log;
+              front = [];
+              part = part;
+              whole = false;
+              reserved = 0;
+              limits = limits.now;
+            }) }
     {
         Ok(Topic {
             alloc,

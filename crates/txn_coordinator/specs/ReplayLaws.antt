@@ -22,9 +22,11 @@ pub named_ends : (n : ℕ) (c : List CoordEntry) (e : CoordEntry) → AreNamedEn
 named_ends n c e are =
     let sk = coord_skeletons c in
     let all : (all_follow (coord_allows n) [] sk && (coord_allows n sk (coord_skeleton e) && true)) ≡ true =
-    sym (ap (all_follow (coord_allows n) []) (map-append coord_skeleton c (e ∷ [])) ∙ all_follow-append (coord_allows n) [] sk (coord_skeleton e ∷ [])) ∙ are.lawful in
-    (record {
-      few = are.few;
-      entries = λ k d lt. subst IsCoordEntry (get_or_append_left c (e ∷ []) d k lt) (are.entries k d (omega (arith, lt, length-append c (e ∷ []))));
-      lawful = and_l (all_follow (coord_allows n) [] sk) (coord_allows n sk (coord_skeleton e) && true) all;
-    }, and_l (coord_allows n sk (coord_skeleton e)) true (and_r (all_follow (coord_allows n) [] sk) (coord_allows n sk (coord_skeleton e) && true) all))
+    sym (ap (all_follow (coord_allows n) []) (map-append coord_skeleton c (e ∷ [])) ∙ all_follow-append (coord_allows n) [] sk (coord_skeleton e ∷ [])) ∙ are.lawful in (
+      record {
+        few = are.few;
+        entries = λ k d lt. subst IsCoordEntry (get_or_append_left c (e ∷ []) d k lt) (are.entries k d (omega (arith, lt, length-append c (e ∷ []))));
+        lawful = and_l (all_follow (coord_allows n) [] sk) (coord_allows n sk (coord_skeleton e) && true) all;
+      },
+      and_l (coord_allows n sk (coord_skeleton e)) true (and_r (all_follow (coord_allows n) [] sk) (coord_allows n sk (coord_skeleton e) && true) all),
+    )

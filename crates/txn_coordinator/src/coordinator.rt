@@ -105,7 +105,8 @@ impl<R: RecordLog> Coordinator<R> {
 
     /// The parts of a transaction: bit p stands for part p.
     pub fn parts(&self, txn: TxnId) -> u64
-        ensures { (p : ℕ) → bit_at result p ≡ (if in_parts (coord_skeletons self.now.front) txn p then 1 else 0) }
+        ensures { (p : ℕ) → bit_at result p ≡ (if in_parts
+            (coord_skeletons self.now.front) txn p then 1 else 0) }
     {
         self.rebuilt.table.parts(txn)
     }

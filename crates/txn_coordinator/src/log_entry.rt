@@ -47,8 +47,10 @@ pub fn log_entry<D: Disk, R: RecordLog>(
     ensures room { R.room log.old ≤ R.room log.new }
     ensures bytes { 26 ≤ capacity bytes.new }
     ensures backed { IsBackedOn R.RecordLog D.Disk disk.new (R.content log.new) }
-    ensures images { After D.Disk (Appends R.mine R.stands (R.content log.old) (coord_batch entry)) disk.old disk.new }
-    ensures others { ChangesOnly (R.mine (R.content log.old).key) (D.seen disk.old) (D.seen disk.new) }
+    ensures images { After D.Disk (Appends R.mine R.stands (R.content log.old)
+        (coord_batch entry)) disk.old disk.new }
+    ensures others { ChangesOnly (R.mine (R.content log.old).key) (D.seen disk.old)
+        (D.seen disk.new) }
     ensures cause { FailsIn D.Disk (R.content log.old).key.part disk.old disk.new result }
 {
     bytes.clear();

@@ -55,14 +55,20 @@ impl<R: RecordLog> Topic<R> {
         requires reserved { self.old.reserved ≡ 1 }
         requires decision { IsNoneOr decision (marker_of (topic_skeletons self.old.front) txn) }
         requires backed { IsBackedOn R.RecordLog D.Disk disk.old self.old.content }
-        ensures stood { marker_of (topic_skeletons self.old.front) txn ≡ Some decision → IsOk result × (self.new ≡ self.old) × (disk.new ≡ disk.old) }
-        ensures ok { OnOk result (marker_of (topic_skeletons self.old.front) txn ≡ None → self.new ≡ with_entries self.old (marker_entry txn decision ∷ []) 0) }
-        ensures stands { OnOk result (marker_of (topic_skeletons self.new.front) txn ≡ Some decision) }
-        ensures err { OnErr result (self.new ≡ with_failed_entries self.old (marker_entry txn decision ∷ [])) }
+        ensures stood { marker_of (topic_skeletons self.old.front) txn ≡ Some decision →
+            IsOk result × (self.new ≡ self.old) × (disk.new ≡ disk.old) }
+        ensures ok { OnOk result (marker_of (topic_skeletons self.old.front) txn ≡ None →
+            self.new ≡ with_entries self.old (marker_entry txn decision ∷ []) 0) }
+        ensures stands { OnOk result (marker_of
+            (topic_skeletons self.new.front) txn ≡ Some decision) }
+        ensures err { OnErr result (self.new ≡ with_failed_entries self.old
+            (marker_entry txn decision ∷ [])) }
         ensures tied { IsFrontOf self.old → IsFrontOf self.new }
         ensures backed { IsBackedOn R.RecordLog D.Disk disk.new self.new.content }
-        ensures images { After D.Disk (Appends R.mine R.stands self.old.content (topic_batch (marker_entry txn decision ∷ []))) disk.old disk.new }
-        ensures others { ChangesOnly (R.mine self.old.content.key) (D.seen disk.old) (D.seen disk.new) }
+        ensures images { After D.Disk (Appends R.mine R.stands self.old.content
+            (topic_batch (marker_entry txn decision ∷ []))) disk.old disk.new }
+        ensures others { ChangesOnly (R.mine self.old.content.key) (D.seen disk.old)
+            (D.seen disk.new) }
         ensures cause { FailsIn D.Disk self.old.content.key.part disk.old disk.new result }
     {
         if self.front.marker(txn).is_some() {
@@ -81,12 +87,16 @@ impl<R: RecordLog> Topic<R> {
         requires reserved { self.old.reserved ≡ 1 }
         requires unmarked { marker_of (topic_skeletons self.old.front) txn ≡ None }
         requires backed { IsBackedOn R.RecordLog D.Disk disk.old self.old.content }
-        ensures ok { OnOk result (self.new ≡ with_entries self.old (marker_entry txn decision ∷ []) 0) }
-        ensures err { OnErr result (self.new ≡ with_failed_entries self.old (marker_entry txn decision ∷ [])) }
+        ensures ok { OnOk result (self.new ≡ with_entries self.old
+            (marker_entry txn decision ∷ []) 0) }
+        ensures err { OnErr result (self.new ≡ with_failed_entries self.old
+            (marker_entry txn decision ∷ [])) }
         ensures tied { IsFrontOf self.old → IsFrontOf self.new }
         ensures backed { IsBackedOn R.RecordLog D.Disk disk.new self.new.content }
-        ensures images { After D.Disk (Appends R.mine R.stands self.old.content (topic_batch (marker_entry txn decision ∷ []))) disk.old disk.new }
-        ensures others { ChangesOnly (R.mine self.old.content.key) (D.seen disk.old) (D.seen disk.new) }
+        ensures images { After D.Disk (Appends R.mine R.stands self.old.content
+            (topic_batch (marker_entry txn decision ∷ []))) disk.old disk.new }
+        ensures others { ChangesOnly (R.mine self.old.content.key) (D.seen disk.old)
+            (D.seen disk.new) }
         ensures cause { FailsIn D.Disk self.old.content.key.part disk.old disk.new result }
     {
         let kind = CoreEntry::Marker { txn, decision };

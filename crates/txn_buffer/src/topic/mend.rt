@@ -25,25 +25,33 @@ impl<R: RecordLog> Topic<R> {
     ) -> Result<Progress, MendError>
         requires standing { self.old.content.standing ≡ looked_at → ⊥ }
         requires backed { IsBackedOn R.RecordLog D.Disk disk.old self.old.content }
-        ensures idle { IsTrue self.old.whole → (self.new ≡ self.old) × (disk.new ≡ disk.old) × (steps.new ≡ steps.old) × (result ≡ Ok (record { at = topic_total self.old; total = topic_total self.old })) }
+        ensures idle { IsTrue self.old.whole →
+            (self.new ≡ self.old) × (disk.new ≡ disk.old) × (steps.new ≡ steps.old)
+            × (result ≡ Ok (record { at = topic_total self.old; total = topic_total self.old })) }
         ensures ok { IfOk result (λ told. Mends self.old self.new told) }
         ensures err { OnErr result (IsRefusedStep self.old self.new) }
-        ensures counted { OnOk result (steps.new ≡ steps.old + step_of self.old (topic_total self.new)) }
+        ensures counted { OnOk result (steps.new ≡ steps.old + step_of self.old
+            (topic_total self.new)) }
         ensures steps_most { steps.new ≤ steps.old + step_of self.old (topic_total self.new) }
         ensures settled { MayHaveSettled self.old.content self.new.content }
         ensures standing { self.new.content.standing ≡ looked_at → ⊥ }
 
         // What was settled is what the files stood for at the call.
-        ensures found { D.tells → self.new.content.standing ≡ settled → R.stands self.old.content.key (D.seen disk.old) self.new.content.batches }
+        ensures found { D.tells → self.new.content.standing ≡ settled →
+            R.stands self.old.content.key (D.seen disk.old) self.new.content.batches }
 
         // Damage is told of a record of this step, the first that is outside the grammar or not allowed after those before it.
-        ensures damaged { (place : ℕ) → result ≡ Err (MendError.Damaged place) → IsInStep self.old (topic_total self.new) place }
-        ensures first_bad { (place : ℕ) → result ≡ Err (MendError.Damaged place) → D.tells → IsFrontOf self.old → IsFirstBadRecord self.new.content.batches place }
+        ensures damaged { (place : ℕ) → result ≡ Err (MendError.Damaged place) →
+            IsInStep self.old (topic_total self.new) place }
+        ensures first_bad { (place : ℕ) → result ≡ Err (MendError.Damaged place) → D.tells →
+            IsFrontOf self.old → IsFirstBadRecord self.new.content.batches place }
         ensures tied { D.tells → IsFrontOf self.old → IsFrontOf self.new }
         ensures backed { IsBackedOn R.RecordLog D.Disk disk.new self.new.content }
         ensures images { After D.Disk (Settles R.mine R.stands self.old.content) disk.old disk.new }
-        ensures others { ChangesOnly (R.mine self.old.content.key) (D.seen disk.old) (D.seen disk.new) }
-        ensures cause { FaultsIn D.Disk self.old.content.key.part disk.old disk.new (result ≡ Err MendError.Fault) }
+        ensures others { ChangesOnly (R.mine self.old.content.key) (D.seen disk.old)
+            (D.seen disk.new) }
+        ensures cause { FaultsIn D.Disk self.old.content.key.part disk.old disk.new
+            (result ≡ Err MendError.Fault) }
     {
         if self.whole {
             let total = self.log.len();

@@ -30,18 +30,27 @@ impl<R: RecordLog> Topic<R> {
         requires bodies { AreBodies self.old.limits (contents_of bodies.now) }
         requires backed { IsBackedOn R.RecordLog D.Disk disk.old self.old.content }
         ensures first { IfOk result (λ place. place ≡ topic_total self.old) }
-        ensures ok { OnOk result (self.new ≡ with_entries self.old (messages_of None (contents_of bodies.now)) self.old.reserved) }
-        ensures full { (result ≡ Err (TopicError.Full (topic_total self.old))) ↔ (self.old.limits.log < topic_total self.old + length bodies.now) }
-        ensures count { (count : ℕ) → result ≡ Err (TopicError.Full count) → count ≡ topic_total self.old }
+        ensures ok { OnOk result (self.new ≡ with_entries self.old
+            (messages_of None (contents_of bodies.now)) self.old.reserved) }
+        ensures full { (result ≡ Err (TopicError.Full (topic_total self.old))) ↔
+            (self.old.limits.log < topic_total self.old + length bodies.now) }
+        ensures count { (count : ℕ) → result ≡ Err (TopicError.Full count) →
+            count ≡ topic_total self.old }
         ensures not_damaged { (place : ℕ) → result ≡ Err (TopicError.Damaged place) → ⊥ }
-        ensures fault { result ≡ Err TopicError.Fault → self.new ≡ with_failed_entries self.old (messages_of None (contents_of bodies.now)) }
-        ensures refused { (count : ℕ) → result ≡ Err (TopicError.Full count) → (self.new ≡ self.old) × (disk.new ≡ disk.old) }
-        ensures no_memory { result ≡ Err TopicError.NoMemory → (self.new ≡ self.old) × (disk.new ≡ disk.old) }
+        ensures fault { result ≡ Err TopicError.Fault →
+            self.new ≡ with_failed_entries self.old (messages_of None (contents_of bodies.now)) }
+        ensures refused { (count : ℕ) → result ≡ Err (TopicError.Full count) →
+            (self.new ≡ self.old) × (disk.new ≡ disk.old) }
+        ensures no_memory { result ≡ Err TopicError.NoMemory →
+            (self.new ≡ self.old) × (disk.new ≡ disk.old) }
         ensures tied { IsFrontOf self.old → IsFrontOf self.new }
         ensures backed { IsBackedOn R.RecordLog D.Disk disk.new self.new.content }
-        ensures images { After D.Disk (Appends R.mine R.stands self.old.content (topic_batch (messages_of None (contents_of bodies.now)))) disk.old disk.new }
-        ensures others { ChangesOnly (R.mine self.old.content.key) (D.seen disk.old) (D.seen disk.new) }
-        ensures cause { FaultsIn D.Disk self.old.content.key.part disk.old disk.new (result ≡ Err TopicError.Fault) }
+        ensures images { After D.Disk (Appends R.mine R.stands self.old.content
+            (topic_batch (messages_of None (contents_of bodies.now)))) disk.old disk.new }
+        ensures others { ChangesOnly (R.mine self.old.content.key) (D.seen disk.old)
+            (D.seen disk.new) }
+        ensures cause { FaultsIn D.Disk self.old.content.key.part disk.old disk.new
+            (result ≡ Err TopicError.Fault) }
     {
         self.add_messages(disk, None, bodies)
     }
@@ -58,18 +67,28 @@ impl<R: RecordLog> Topic<R> {
         requires bodies { AreBodies self.old.limits (contents_of bodies.now) }
         requires backed { IsBackedOn R.RecordLog D.Disk disk.old self.old.content }
         ensures first { IfOk result (λ place. place ≡ topic_total self.old) }
-        ensures ok { OnOk result (self.new ≡ with_entries self.old (messages_of (Some txn) (contents_of bodies.now)) self.old.reserved) }
-        ensures full { (result ≡ Err (TopicError.Full (topic_total self.old))) ↔ (self.old.limits.log < topic_total self.old + length bodies.now) }
-        ensures count { (count : ℕ) → result ≡ Err (TopicError.Full count) → count ≡ topic_total self.old }
+        ensures ok { OnOk result (self.new ≡ with_entries self.old
+            (messages_of (Some txn) (contents_of bodies.now)) self.old.reserved) }
+        ensures full { (result ≡ Err (TopicError.Full (topic_total self.old))) ↔
+            (self.old.limits.log < topic_total self.old + length bodies.now) }
+        ensures count { (count : ℕ) → result ≡ Err (TopicError.Full count) →
+            count ≡ topic_total self.old }
         ensures not_damaged { (place : ℕ) → result ≡ Err (TopicError.Damaged place) → ⊥ }
-        ensures fault { result ≡ Err TopicError.Fault → self.new ≡ with_failed_entries self.old (messages_of (Some txn) (contents_of bodies.now)) }
-        ensures refused { (count : ℕ) → result ≡ Err (TopicError.Full count) → (self.new ≡ self.old) × (disk.new ≡ disk.old) }
-        ensures no_memory { result ≡ Err TopicError.NoMemory → (self.new ≡ self.old) × (disk.new ≡ disk.old) }
+        ensures fault { result ≡ Err TopicError.Fault →
+            self.new ≡ with_failed_entries self.old
+            (messages_of (Some txn) (contents_of bodies.now)) }
+        ensures refused { (count : ℕ) → result ≡ Err (TopicError.Full count) →
+            (self.new ≡ self.old) × (disk.new ≡ disk.old) }
+        ensures no_memory { result ≡ Err TopicError.NoMemory →
+            (self.new ≡ self.old) × (disk.new ≡ disk.old) }
         ensures tied { IsFrontOf self.old → IsFrontOf self.new }
         ensures backed { IsBackedOn R.RecordLog D.Disk disk.new self.new.content }
-        ensures images { After D.Disk (Appends R.mine R.stands self.old.content (topic_batch (messages_of (Some txn) (contents_of bodies.now)))) disk.old disk.new }
-        ensures others { ChangesOnly (R.mine self.old.content.key) (D.seen disk.old) (D.seen disk.new) }
-        ensures cause { FaultsIn D.Disk self.old.content.key.part disk.old disk.new (result ≡ Err TopicError.Fault) }
+        ensures images { After D.Disk (Appends R.mine R.stands self.old.content
+            (topic_batch (messages_of (Some txn) (contents_of bodies.now)))) disk.old disk.new }
+        ensures others { ChangesOnly (R.mine self.old.content.key) (D.seen disk.old)
+            (D.seen disk.new) }
+        ensures cause { FaultsIn D.Disk self.old.content.key.part disk.old disk.new
+            (result ≡ Err TopicError.Fault) }
     {
         self.add_messages(disk, Some(txn), bodies)
     }
@@ -85,18 +104,27 @@ impl<R: RecordLog> Topic<R> {
         requires bodies { AreBodies self.old.limits (contents_of bodies.now) }
         requires backed { IsBackedOn R.RecordLog D.Disk disk.old self.old.content }
         ensures first { IfOk result (λ place. place ≡ topic_total self.old) }
-        ensures ok { OnOk result (self.new ≡ with_entries self.old (messages_of txn (contents_of bodies.now)) self.old.reserved) }
-        ensures full { (result ≡ Err (TopicError.Full (topic_total self.old))) ↔ (self.old.limits.log < topic_total self.old + length bodies.now) }
-        ensures count { (count : ℕ) → result ≡ Err (TopicError.Full count) → count ≡ topic_total self.old }
+        ensures ok { OnOk result (self.new ≡ with_entries self.old
+            (messages_of txn (contents_of bodies.now)) self.old.reserved) }
+        ensures full { (result ≡ Err (TopicError.Full (topic_total self.old))) ↔
+            (self.old.limits.log < topic_total self.old + length bodies.now) }
+        ensures count { (count : ℕ) → result ≡ Err (TopicError.Full count) →
+            count ≡ topic_total self.old }
         ensures not_damaged { (place : ℕ) → result ≡ Err (TopicError.Damaged place) → ⊥ }
-        ensures fault { result ≡ Err TopicError.Fault → self.new ≡ with_failed_entries self.old (messages_of txn (contents_of bodies.now)) }
-        ensures refused { (count : ℕ) → result ≡ Err (TopicError.Full count) → (self.new ≡ self.old) × (disk.new ≡ disk.old) }
-        ensures no_memory { result ≡ Err TopicError.NoMemory → (self.new ≡ self.old) × (disk.new ≡ disk.old) }
+        ensures fault { result ≡ Err TopicError.Fault →
+            self.new ≡ with_failed_entries self.old (messages_of txn (contents_of bodies.now)) }
+        ensures refused { (count : ℕ) → result ≡ Err (TopicError.Full count) →
+            (self.new ≡ self.old) × (disk.new ≡ disk.old) }
+        ensures no_memory { result ≡ Err TopicError.NoMemory →
+            (self.new ≡ self.old) × (disk.new ≡ disk.old) }
         ensures tied { IsFrontOf self.old → IsFrontOf self.new }
         ensures backed { IsBackedOn R.RecordLog D.Disk disk.new self.new.content }
-        ensures images { After D.Disk (Appends R.mine R.stands self.old.content (topic_batch (messages_of txn (contents_of bodies.now)))) disk.old disk.new }
-        ensures others { ChangesOnly (R.mine self.old.content.key) (D.seen disk.old) (D.seen disk.new) }
-        ensures cause { FaultsIn D.Disk self.old.content.key.part disk.old disk.new (result ≡ Err TopicError.Fault) }
+        ensures images { After D.Disk (Appends R.mine R.stands self.old.content
+            (topic_batch (messages_of txn (contents_of bodies.now)))) disk.old disk.new }
+        ensures others { ChangesOnly (R.mine self.old.content.key) (D.seen disk.old)
+            (D.seen disk.new) }
+        ensures cause { FaultsIn D.Disk self.old.content.key.part disk.old disk.new
+            (result ≡ Err TopicError.Fault) }
     {
         let place = self.log.len();
         if !has_room(&self.limits, place, bodies.len()) {
@@ -139,11 +167,14 @@ fn prepare<R: RecordLog>(
 ) -> Result<Vec<Bytes>, AllocError>
     requires few { reserved ≤ 1 }
     requires bodies { ArePublished (contents_of bodies.now) }
-    ensures batch { IfOk result (λ batch. contents_of batch.items ≡ topic_batch (messages_of txn (contents_of bodies.now))) }
-    ensures entries { IfOk result (λ batch. map topic_entry_of (contents_of batch.items) ≡ messages_of txn (contents_of bodies.now)) }
+    ensures batch { IfOk result (λ batch. contents_of batch.items ≡ topic_batch
+        (messages_of txn (contents_of bodies.now))) }
+    ensures entries { IfOk result (λ batch. map topic_entry_of
+        (contents_of batch.items) ≡ messages_of txn (contents_of bodies.now)) }
     ensures grammar { IfOk result (λ batch. All IsInGrammar (contents_of batch.items)) }
     ensures spare { OnOk result (length bodies.now + reserved ≤ R.spare log.new) }
-    ensures room { IfOk result (λ batch. length (frame (contents_of batch.items)) ≤ R.room log.new) }
+    ensures room { IfOk result (λ batch. length
+        (frame (contents_of batch.items)) ≤ R.room log.new) }
     ensures opens { OnOk result (opens_for txn (length bodies.now) ≤ front.new.opens) }
     ensures content { R.content log.new ≡ R.content log.old }
     ensures spare_kept { R.spare log.old ≤ R.spare log.new }

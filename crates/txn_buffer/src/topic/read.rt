@@ -39,17 +39,25 @@ impl<R: RecordLog> Topic<R> {
     ) -> Result<Messages, TopicError>
         requires max { 1 ≤ max }
         requires reads { ReadsOn R.RecordLog D.Disk disk.old self.now.content }
-        ensures slice { D.tells → IsFrontOf self.now → IfOk result (λ messages. messages ≡ read_slice self.now.limits self.now.front first max) }
-        ensures undamaged { (place : ℕ) → D.tells → IsFrontOf self.now → result ≡ Err (TopicError.Damaged place) → ⊥ }
-        ensures damaged { (place : ℕ) → result ≡ Err (TopicError.Damaged place) → D.tells → IsOutside (slice_index_or (records self.now.content.batches) place []) }
-        ensures damaged_place { (place : ℕ) → result ≡ Err (TopicError.Damaged place) → (first ≤ place) × (place < limit_of self.now.front) }
+        ensures slice { D.tells → IsFrontOf self.now →
+            IfOk result (λ messages. messages ≡ read_slice self.now.limits self.now.front first
+            max) }
+        ensures undamaged { (place : ℕ) → D.tells → IsFrontOf self.now →
+            result ≡ Err (TopicError.Damaged place) → ⊥ }
+        ensures damaged { (place : ℕ) → result ≡ Err (TopicError.Damaged place) → D.tells →
+            IsOutside (slice_index_or (records self.now.content.batches) place []) }
+        ensures damaged_place { (place : ℕ) → result ≡ Err (TopicError.Damaged place) →
+            (first ≤ place) × (place < limit_of self.now.front) }
         ensures not_full { (count : ℕ) → result ≡ Err (TopicError.Full count) → ⊥ }
         ensures steps_limit { steps.new ≤ steps.old + (limit_of self.now.front - first) }
         ensures steps_least { steps.old ≤ steps.new }
-        ensures steps_next { D.tells → IsFrontOf self.now → IfOk result (λ messages. ReadsUpTo self.now.front first messages (steps.new - steps.old)) }
+        ensures steps_next { D.tells → IsFrontOf self.now →
+            IfOk result (λ messages. ReadsUpTo self.now.front first messages
+            (steps.new - steps.old)) }
         ensures seen { D.seen disk.new ≡ D.seen disk.old }
         ensures images { After D.Disk Same disk.old disk.new }
-        ensures cause { FaultsIn D.Disk self.now.content.key.part disk.old disk.new (result ≡ Err TopicError.Fault) }
+        ensures cause { FaultsIn D.Disk self.now.content.key.part disk.old disk.new
+            (result ≡ Err TopicError.Fault) }
     {
         let end = self.front.limit();
         let mut slice = Slice::new(self.alloc, &self.limits, max);
@@ -73,13 +81,19 @@ impl<R: RecordLog> Topic<R> {
     ) -> Result<Option<Message>, TopicError>
         requires place { place < length self.now.front }
         requires reads { ReadsOn R.RecordLog D.Disk disk.old self.now.content }
-        ensures shown { D.tells → IsFrontOf self.now → IfOk result (λ found. (d : TopicEntry) → found ≡ shows (topic_skeletons self.now.front) place (slice_index_or self.now.front place d)) }
+        ensures shown { D.tells → IsFrontOf self.now →
+            IfOk result (λ found. (d : TopicEntry) →
+            found ≡ shows (topic_skeletons self.now.front) place
+            (slice_index_or self.now.front place d)) }
         ensures damaged { (at : ℕ) → result ≡ Err (TopicError.Damaged at) → at ≡ place }
-        ensures outside { (at : ℕ) → result ≡ Err (TopicError.Damaged at) → D.tells → IsOutside (slice_index_or (records self.now.content.batches) place []) }
-        ensures undamaged { (at : ℕ) → D.tells → IsFrontOf self.now → result ≡ Err (TopicError.Damaged at) → ⊥ }
+        ensures outside { (at : ℕ) → result ≡ Err (TopicError.Damaged at) → D.tells →
+            IsOutside (slice_index_or (records self.now.content.batches) place []) }
+        ensures undamaged { (at : ℕ) → D.tells → IsFrontOf self.now →
+            result ≡ Err (TopicError.Damaged at) → ⊥ }
         ensures not_full { (count : ℕ) → result ≡ Err (TopicError.Full count) → ⊥ }
         ensures counted { steps.new ≡ steps.old + 1 }
-        ensures reads { OnlyReads D.Disk self.now.content.key.part (result ≡ Err TopicError.Fault) disk.old disk.new }
+        ensures reads { OnlyReads D.Disk self.now.content.key.part
+            (result ≡ Err TopicError.Fault) disk.old disk.new }
     {
         match self.log.get(disk, place, steps) {
             Ok(bytes) => self.shown_of(&bytes, place),
@@ -90,8 +104,10 @@ impl<R: RecordLog> Topic<R> {
 
     /// What a record at a place shows.
     fn shown_of(&self, bytes: &Bytes, place: u64) -> Result<Option<Message>, TopicError>
-        ensures shown { IfOk result (λ found. found ≡ shows (topic_skeletons self.now.front) place (topic_entry_of bytes.now.bytes)) }
-        ensures damaged { (at : ℕ) → result ≡ Err (TopicError.Damaged at) → (at ≡ place) × IsOutside bytes.now.bytes }
+        ensures shown { IfOk result (λ found. found ≡ shows (topic_skeletons self.now.front) place
+            (topic_entry_of bytes.now.bytes)) }
+        ensures damaged { (at : ℕ) → result ≡ Err (TopicError.Damaged at) →
+            (at ≡ place) × IsOutside bytes.now.bytes }
         ensures not_full { (count : ℕ) → result ≡ Err (TopicError.Full count) → ⊥ }
         ensures no_fault { result ≡ Err TopicError.Fault → ⊥ }
     {
@@ -108,7 +124,8 @@ impl<R: RecordLog> Topic<R> {
 
 /// Whether an entry is a message that is shown where no undecided one stands before it.
 fn is_shown(front: &Front, found: &TopicRecord) -> bool
-    ensures { result ≡ is_shown_after (topic_skeletons front.now.entries) (topic_skeleton found.now) }
+    ensures { result ≡ is_shown_after (topic_skeletons front.now.entries)
+        (topic_skeleton found.now) }
 {
     match found.entry() {
         CoreEntry::Plain => true,

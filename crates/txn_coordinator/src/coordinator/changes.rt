@@ -40,18 +40,28 @@ impl<R: RecordLog> Coordinator<R> {
         requires backed { IsBackedOn R.RecordLog D.Disk disk.old (self.old).content }
         ensures failed { MayFail result }
         ensures ok { OnOk result (self.new ≡ with_entry self.old entry) }
-        ensures fault { result ≡ Err CoordError.Fault → self.new ≡ with_failed_entry self.old entry }
+        ensures fault { result ≡ Err CoordError.Fault →
+            self.new ≡ with_failed_entry self.old entry }
         ensures no_memory { result ≡ Err CoordError.NoMemory → self.new ≡ self.old }
         ensures unwritten { result ≡ Err CoordError.NoMemory → disk.new ≡ disk.old }
         ensures tied { IsFrontOf self.old → IsFrontOf self.new }
         ensures backed { IsBackedOn R.RecordLog D.Disk disk.new (self.new).content }
-        ensures images { After D.Disk (Appends R.mine R.stands (self.old).content (coord_batch entry)) disk.old disk.new }
-        ensures others { ChangesOnly (R.mine (self.old).content.key) (D.seen disk.old) (D.seen disk.new) }
-        ensures cause { FaultsIn D.Disk (self.old).content.key.part disk.old disk.new (result ≡ Err CoordError.Fault) }
+        ensures images { After D.Disk (Appends R.mine R.stands (self.old).content
+            (coord_batch entry)) disk.old disk.new }
+        ensures others { ChangesOnly (R.mine (self.old).content.key) (D.seen disk.old)
+            (D.seen disk.new) }
+        ensures cause { FaultsIn D.Disk (self.old).content.key.part disk.old disk.new
+            (result ≡ Err CoordError.Fault) }
     {
         self.log.reserve(2, FRAME)?;
         self.rebuilt.table.reserve(1)?;
-        match log_entry(&mut self.log, &mut self.rebuilt.table, &mut self.bytes, disk, entry) {
+        match log_entry(
+            &mut self.log,
+            &mut self.rebuilt.table,
+            &mut self.bytes,
+            disk,
+            entry,
+        ) {
             Ok(()) => {
                 self.at = self.log.len();
                 Ok(())
@@ -86,17 +96,24 @@ impl<R: RecordLog> Coordinator<R> {
         requires whole { IsTrue (self.old).whole }
         requires now { now ≤ 2 ^ 62 }
         requires backed { IsBackedOn R.RecordLog D.Disk disk.old (self.old).content }
-        ensures refused { MatchOption (begin_refusal self.old timeout) (MayFail result) (λ refusal. result ≡ Err refusal) }
+        ensures refused { MatchOption (begin_refusal self.old timeout) (MayFail result)
+            (λ refusal. result ≡ Err refusal) }
         ensures told { IfOk result (λ txn. txn ≡ next_txn self.old) }
-        ensures ok { OnOk result (self.new ≡ with_entry self.old (CoordEntry.New (next_txn self.old) (now + timeout))) }
-        ensures fault { result ≡ Err CoordError.Fault → self.new ≡ with_failed_entry self.old (CoordEntry.New (next_txn self.old) (now + timeout)) }
+        ensures ok { OnOk result (self.new ≡ with_entry self.old
+            (CoordEntry.New (next_txn self.old) (now + timeout))) }
+        ensures fault { result ≡ Err CoordError.Fault →
+            self.new ≡ with_failed_entry self.old
+            (CoordEntry.New (next_txn self.old) (now + timeout)) }
         ensures same { IfErr result (λ e. (e ≡ CoordError.Fault → ⊥) → self.new ≡ self.old) }
         ensures unwritten { IfErr result (λ e. (e ≡ CoordError.Fault → ⊥) → disk.new ≡ disk.old) }
         ensures tied { IsFrontOf self.old → IsFrontOf self.new }
         ensures backed { IsBackedOn R.RecordLog D.Disk disk.new (self.new).content }
-        ensures images { After D.Disk (Appends R.mine R.stands (self.old).content (coord_batch (CoordEntry.New (next_txn self.old) (now + timeout)))) disk.old disk.new }
-        ensures others { ChangesOnly (R.mine (self.old).content.key) (D.seen disk.old) (D.seen disk.new) }
-        ensures cause { FaultsIn D.Disk (self.old).content.key.part disk.old disk.new (result ≡ Err CoordError.Fault) }
+        ensures images { After D.Disk (Appends R.mine R.stands (self.old).content
+            (coord_batch (CoordEntry.New (next_txn self.old) (now + timeout)))) disk.old disk.new }
+        ensures others { ChangesOnly (R.mine (self.old).content.key) (D.seen disk.old)
+            (D.seen disk.new) }
+        ensures cause { FaultsIn D.Disk (self.old).content.key.part disk.old disk.new
+            (result ≡ Err CoordError.Fault) }
     {
         let _ = &self.rebuilt.table;
         if let Some(refusal) = self.begin_refusal(timeout) {
@@ -114,18 +131,24 @@ impl<R: RecordLog> Coordinator<R> {
         requires least { 1 ≤ part }
         requires most { part ≤ (self.old).named }
         requires backed { IsBackedOn R.RecordLog D.Disk disk.old (self.old).content }
-        ensures refused { MatchOption (add_refusal self.old txn part) (MayFail result) (λ refusal. result ≡ Err refusal) }
-        ensures repeated { add_refusal self.old txn part ≡ None → has_part self.old txn part ≡ true → IsOk result }
+        ensures refused { MatchOption (add_refusal self.old txn part) (MayFail result)
+            (λ refusal. result ≡ Err refusal) }
+        ensures repeated { add_refusal self.old txn part ≡ None →
+            has_part self.old txn part ≡ true → IsOk result }
         ensures nothing { has_part self.old txn part ≡ true → disk.new ≡ disk.old }
         ensures ok { OnOk result (self.new ≡ with_part self.old txn part) }
-        ensures fault { result ≡ Err CoordError.Fault → self.new ≡ with_failed_entry self.old (CoordEntry.AddPart txn part) }
+        ensures fault { result ≡ Err CoordError.Fault →
+            self.new ≡ with_failed_entry self.old (CoordEntry.AddPart txn part) }
         ensures same { IfErr result (λ e. (e ≡ CoordError.Fault → ⊥) → self.new ≡ self.old) }
         ensures unwritten { IfErr result (λ e. (e ≡ CoordError.Fault → ⊥) → disk.new ≡ disk.old) }
         ensures tied { IsFrontOf self.old → IsFrontOf self.new }
         ensures backed { IsBackedOn R.RecordLog D.Disk disk.new (self.new).content }
-        ensures images { After D.Disk (Appends R.mine R.stands (self.old).content (coord_batch (CoordEntry.AddPart txn part))) disk.old disk.new }
-        ensures others { ChangesOnly (R.mine (self.old).content.key) (D.seen disk.old) (D.seen disk.new) }
-        ensures cause { FaultsIn D.Disk (self.old).content.key.part disk.old disk.new (result ≡ Err CoordError.Fault) }
+        ensures images { After D.Disk (Appends R.mine R.stands (self.old).content
+            (coord_batch (CoordEntry.AddPart txn part))) disk.old disk.new }
+        ensures others { ChangesOnly (R.mine (self.old).content.key) (D.seen disk.old)
+            (D.seen disk.new) }
+        ensures cause { FaultsIn D.Disk (self.old).content.key.part disk.old disk.new
+            (result ≡ Err CoordError.Fault) }
     {
         if let Some(refusal) = self.add_refusal(txn, part) {
             return Err(refusal);
@@ -145,19 +168,25 @@ impl<R: RecordLog> Coordinator<R> {
     ) -> Result<Status, CoordError>
         requires whole { IsTrue (self.old).whole }
         requires backed { IsBackedOn R.RecordLog D.Disk disk.old (self.old).content }
-        ensures refused { MatchOption (decide_refusal self.old txn decision) (MayFail result) (λ refusal. result ≡ Err refusal) }
-        ensures repeated { decide_refusal self.old txn decision ≡ None → is_open (status_in_view self.old txn) ≡ false → IsOk result }
+        ensures refused { MatchOption (decide_refusal self.old txn decision) (MayFail result)
+            (λ refusal. result ≡ Err refusal) }
+        ensures repeated { decide_refusal self.old txn decision ≡ None →
+            is_open (status_in_view self.old txn) ≡ false → IsOk result }
         ensures nothing { is_open (status_in_view self.old txn) ≡ false → disk.new ≡ disk.old }
         ensures told { IfOk result (λ status. status ≡ decided_status self.old txn decision) }
         ensures ok { OnOk result (self.new ≡ decided self.old txn decision) }
-        ensures fault { result ≡ Err CoordError.Fault → self.new ≡ with_failed_entry self.old (decision_entry txn decision) }
+        ensures fault { result ≡ Err CoordError.Fault →
+            self.new ≡ with_failed_entry self.old (decision_entry txn decision) }
         ensures same { IfErr result (λ e. (e ≡ CoordError.Fault → ⊥) → self.new ≡ self.old) }
         ensures unwritten { IfErr result (λ e. (e ≡ CoordError.Fault → ⊥) → disk.new ≡ disk.old) }
         ensures tied { IsFrontOf self.old → IsFrontOf self.new }
         ensures backed { IsBackedOn R.RecordLog D.Disk disk.new (self.new).content }
-        ensures images { After D.Disk (Appends R.mine R.stands (self.old).content (coord_batch (decision_entry txn decision))) disk.old disk.new }
-        ensures others { ChangesOnly (R.mine (self.old).content.key) (D.seen disk.old) (D.seen disk.new) }
-        ensures cause { FaultsIn D.Disk (self.old).content.key.part disk.old disk.new (result ≡ Err CoordError.Fault) }
+        ensures images { After D.Disk (Appends R.mine R.stands (self.old).content
+            (coord_batch (decision_entry txn decision))) disk.old disk.new }
+        ensures others { ChangesOnly (R.mine (self.old).content.key) (D.seen disk.old)
+            (D.seen disk.new) }
+        ensures cause { FaultsIn D.Disk (self.old).content.key.part disk.old disk.new
+            (result ≡ Err CoordError.Fault) }
     {
         if let Some(refusal) = self.decide_refusal(txn, decision) {
             return Err(refusal);
@@ -176,7 +205,8 @@ impl<R: RecordLog> Coordinator<R> {
     fn close_of(&self, txn: TxnId) -> CoordEntry
         ensures entry { result ≡ closing_of_view self.now txn }
         ensures fits { IsCoordEntry result }
-        ensures allowed { is_undriven (status_in_view self.now txn) ≡ true → may_follow self.now.named self.now.front result ≡ true }
+        ensures allowed { is_undriven (status_in_view self.now txn) ≡ true →
+            may_follow self.now.named self.now.front result ≡ true }
     {
         let _count = self.rebuilt.table.count();
         let decision = self.rebuilt.table.decision(txn).unwrap_or(Decision::Commit);
@@ -190,17 +220,27 @@ impl<R: RecordLog> Coordinator<R> {
         requires reserved { (self.old).reserved ≡ 1 }
         requires undriven { is_undriven (status_in_view self.old txn) ≡ true }
         requires backed { IsBackedOn R.RecordLog D.Disk disk.old (self.old).content }
-        ensures ok { OnOk result (self.new ≡ reserving 0 (with_entry self.old (closing_of_view self.old txn))) }
-        ensures fault { OnErr result (self.new ≡ with_failed_entry self.old (closing_of_view self.old txn)) }
+        ensures ok { OnOk result (self.new ≡ reserving 0
+            (with_entry self.old (closing_of_view self.old txn))) }
+        ensures fault { OnErr result (self.new ≡ with_failed_entry self.old
+            (closing_of_view self.old txn)) }
         ensures tied { IsFrontOf self.old → IsFrontOf self.new }
         ensures backed { IsBackedOn R.RecordLog D.Disk disk.new (self.new).content }
-        ensures images { After D.Disk (Appends R.mine R.stands (self.old).content (coord_batch (closing_of_view self.old txn))) disk.old disk.new }
-        ensures others { ChangesOnly (R.mine (self.old).content.key) (D.seen disk.old) (D.seen disk.new) }
+        ensures images { After D.Disk (Appends R.mine R.stands (self.old).content
+            (coord_batch (closing_of_view self.old txn))) disk.old disk.new }
+        ensures others { ChangesOnly (R.mine (self.old).content.key) (D.seen disk.old)
+            (D.seen disk.new) }
         ensures cause { FailsIn D.Disk (self.old).content.key.part disk.old disk.new result }
     {
         let entry = self.close_of(txn);
         self.reserved = false;
-        match log_entry(&mut self.log, &mut self.rebuilt.table, &mut self.bytes, disk, entry) {
+        match log_entry(
+            &mut self.log,
+            &mut self.rebuilt.table,
+            &mut self.bytes,
+            disk,
+            entry,
+        ) {
             Ok(()) => {
                 self.at = self.log.len();
                 Ok(())

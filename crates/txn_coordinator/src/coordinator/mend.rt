@@ -20,7 +20,8 @@ use txn_table::Table;
 
 /// The low watermark of the opening: that of the moment when a coordinator is whole for the first time.
 fn opening_low(before: u64, was_whole: bool, whole: bool, table: &Table) -> u64
-    ensures { result ≡ (if was_whole then before else (if whole then low_of table.now.front else before)) }
+    ensures { result ≡ (if was_whole then before else
+        (if whole then low_of table.now.front else before)) }
 {
     if was_whole || !whole {
         return before;
@@ -44,25 +45,39 @@ impl<R: RecordLog> Coordinator<R> {
         ensures nothing { IsTrue (self.old).whole → self.new ≡ self.old }
         ensures idle { IsTrue (self.old).whole → (disk.new ≡ disk.old) × (steps.new ≡ steps.old) }
         ensures ok { OnOk result (Mends self.old self.new) }
-        ensures told { IfOk result (λ progress. progress ≡ record { at = length (self.new).front; total = coord_total self.new }) }
+        ensures told { IfOk result (λ progress. progress ≡
+            record { at = length (self.new).front; total = coord_total self.new }) }
         ensures err { OnErr result (IsRefusedStep self.old self.new) }
-        ensures settled { IfErr result (λ e. (e ≡ MendError.Fault → ⊥) → IsSettledFrom (self.old).content (self.new).content) }
+        ensures settled { IfErr result (λ e. (e ≡ MendError.Fault → ⊥) →
+            IsSettledFrom (self.old).content (self.new).content) }
         ensures standing { (self.new).content.standing ≡ looked_at → ⊥ }
 
         // What was settled is what the files stood for at the call.
-        ensures found { D.tells → (self.new).content.standing ≡ settled → R.stands (self.old).content.key (D.seen disk.old) (self.new).content.batches }
-        ensures read { D.tells → OnOk result (AreRecordsTo (self.new).content (length (self.old).front) (length (self.new).front) (self.new).front) }
-        ensures damaged { (place : ℕ) → result ≡ Err (MendError.Damaged place) → IsInStep self.old self.new place }
-        ensures bad { D.tells → AreReplayed (self.old).named (self.old).content (self.old).front → (place : ℕ) → result ≡ Err (MendError.Damaged place) → IsFirstBadRecord (self.old).named (self.new).content place }
-        ensures counted { OnOk result (steps.new + length (self.old).front ≡ steps.old + length (self.new).front) }
+        ensures found { D.tells → (self.new).content.standing ≡ settled →
+            R.stands (self.old).content.key (D.seen disk.old) (self.new).content.batches }
+        ensures read { D.tells →
+            OnOk result (AreRecordsTo (self.new).content (length (self.old).front)
+            (length (self.new).front) (self.new).front) }
+        ensures damaged { (place : ℕ) → result ≡ Err (MendError.Damaged place) →
+            IsInStep self.old self.new place }
+        ensures bad { D.tells → AreReplayed (self.old).named (self.old).content (self.old).front →
+            (place : ℕ) → result ≡ Err (MendError.Damaged place) →
+            IsFirstBadRecord (self.old).named (self.new).content place }
+        ensures counted { OnOk result (steps.new + length (self.old).front ≡ steps.old + length
+            (self.new).front) }
         ensures few { steps.new ≤ steps.old + (self.old).limits.step }
         ensures tied { D.tells → IsFrontOf self.old → IsFrontOf self.new }
-        ensures replayed { D.tells → AreReplayed (self.old).named (self.old).content (self.old).front → AreReplayed (self.old).named (self.new).content (self.new).front }
+        ensures replayed { D.tells →
+            AreReplayed (self.old).named (self.old).content (self.old).front →
+            AreReplayed (self.old).named (self.new).content (self.new).front }
         ensures lawful { CoordLawful (self.old).named (coord_skeletons (self.new).front) }
         ensures backed { IsBackedOn R.RecordLog D.Disk disk.new (self.new).content }
-        ensures images { After D.Disk (Settles R.mine R.stands (self.old).content) disk.old disk.new }
-        ensures others { ChangesOnly (R.mine (self.old).content.key) (D.seen disk.old) (D.seen disk.new) }
-        ensures cause { FaultsIn D.Disk (self.old).content.key.part disk.old disk.new (result ≡ Err MendError.Fault) }
+        ensures images { After D.Disk (Settles R.mine R.stands
+            (self.old).content) disk.old disk.new }
+        ensures others { ChangesOnly (R.mine (self.old).content.key) (D.seen disk.old)
+            (D.seen disk.new) }
+        ensures cause { FaultsIn D.Disk (self.old).content.key.part disk.old disk.new
+            (result ≡ Err MendError.Fault) }
     {
         let before = self.log.len();
         if self.whole {
