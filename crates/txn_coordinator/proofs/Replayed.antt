@@ -1,5 +1,6 @@
 -- Entries that a replay takes, with so many parts named.
-use Rattle.std.proofs.Common.{◌≡◌, ◌≤◌, ℕ, ⊎_elim, inr, ◌⊎◌, false, List, [], length, take, sym, ap, ◌∙◌}
+use Rattle.std.proofs.Common.{◌≡◌, ◌≤◌, ℕ, ⊎_elim, inr, ◌⊎◌, false, List, [], length, take, sym, ap, ◌∙◌, arith}
+use Rattle.std.proofs.lemmas.List.{take_all}
 use Rattle.txn_base.specs.declared.entry.CoordEntry.{CoordEntry}
 use Rattle.txn_base.specs.Content.{LedgerContent, settled}
 use Rattle.txn_base.specs.Frames.{Record, records}
@@ -44,3 +45,6 @@ module _ (s t : LedgerContent) (front : List CoordEntry) (within : length front 
   replayed_settled named was =
       let now = front_settled coord_grammar s t front within how (record { entries = was.entries; in_grammar = was.grammar }) in
       record { entries = now.entries; grammar = now.in_grammar; lawful = was.lawful }
+
+pub extends_same : (front now : List CoordEntry) → now ≡ front → front ≡ take (length front) now
+extends_same front now same = sym (ap (take (length front)) same ∙ take_all (length front) front (omega arith))

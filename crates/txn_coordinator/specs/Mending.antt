@@ -76,3 +76,26 @@ pub record IsRefusedStep (old new : CoordView) : Type 0 where
   pub reserved : new.reserved ≡ 0
   pub limits : new.limits ≡ old.limits
   pub named : new.named ≡ old.named
+
+-- A recovery to the end: it settles the log, and adds the entries of all records that are left.
+pub record MendsWhole (old new : CoordView) : Type 0 where
+  pub settles : IsSettledFrom old.content new.content
+  pub all : length new.front ≡ coord_total new
+  pub extends : old.front ≡ take (length old.front) new.front
+  pub whole : IsTrue new.whole
+  pub opened : new.opened_low ≡ (if old.was_whole then old.opened_low else low_of new.front)
+  pub was_whole : IsTrue new.was_whole
+  pub reserved : new.reserved ≡ (if old.whole then old.reserved else 0)
+  pub limits : new.limits ≡ old.limits
+  pub named : new.named ≡ old.named
+
+-- One that is refused: it may have settled the log, what its steps added stands, and nothing else changes.
+pub record IsRefusedWhole (old new : CoordView) : Type 0 where
+  pub settles : (new.content ≡ old.content) ⊎ IsSettledFrom old.content new.content
+  pub extends : old.front ≡ take (length old.front) new.front
+  pub whole : new.whole ≡ old.whole
+  pub opened : new.opened_low ≡ old.opened_low
+  pub was_whole : new.was_whole ≡ old.was_whole
+  pub reserved : new.reserved ≡ 0
+  pub limits : new.limits ≡ old.limits
+  pub named : new.named ≡ old.named
