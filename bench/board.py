@@ -15,7 +15,7 @@ sys.dont_write_bytecode = True
 
 from behind_pipes import BENCH, compiled
 
-READS, STEPS, TXNS, ROUNDS = 40_000_000, 20_000_000, 1_000_000, 9
+READS, STEPS, TXNS, ROUNDS = 40_000_000, 20_000_000, 5_000_000, 9
 PROGRAM = sys.argv[1] if len(sys.argv) > 1 else f"{BENCH}/../crates/txn_board_tests/out/txn_board_tests"
 
 

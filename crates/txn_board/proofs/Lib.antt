@@ -12,5 +12,4 @@ pub mod Meanings
 pub mod Telling
 pub mod Watermark
 pub mod Sentences
-pub mod Parts
 pub mod Laws

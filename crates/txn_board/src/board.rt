@@ -117,8 +117,8 @@ pub struct Opened<T: Promise> {
 
 impl<T: Promise> Opened<T> {
     /// A board whose words say what these lists say, that of part p at position p. It keeps 24 bytes for each transaction of
-    /// the window and for each below it; while it fills them it takes 24 for each that the log begins, and those of the window
-    /// twice.
+    /// the window and for each below it. While it makes them it takes that twice, and 24 for each past those below it that the
+    /// log begins.
     pub fn of_lists(alloc: Global, lists: &Skeletons) -> Result<Opened<T>, AllocError>
         requires log { 1 ≤ length lists.now }
         requires few { length lists.now ≤ 63 }

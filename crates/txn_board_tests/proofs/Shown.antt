@@ -16,11 +16,8 @@ use Rattle.txn_board_tests.specs.Sure.{decided_log, closed_log, Rests, IsFlying}
 use Rattle.txn_board_tests.proofs.Dealing.{both_parts}
 use Rattle.txn_board.specs.declared.view.View.{View}
 use Rattle.txn_board.specs.Words.{window, IsIn, word_at}
-use Rattle.txn_board.specs.Rows.{parts_in, list_in, low_in, IsSeatOf, with_row_by, settle_view, loaded, opening_view, dealt_view, HasSeatRow, joined_view}
+use Rattle.txn_board.specs.Rows.{parts_in, list_in, low_in, IsSeatOf, with_row_by, settle_view, loaded, HasSeatRow, joined_view}
 use Rattle.txn_board.specs.Calls.{MayStart, IsSettling, start_where, MayDrop, MayClose, inside_where, marker_where, closing_where, closing_in, closing_by, StartsInsideWithin, StartsMarkerWithin, StartsClosingWithin}
-
-pub first_seat : (lists : List (List CoreEntry)) (v : View) → lists ≡ [] ∷ [] ∷ [] → v ≡ dealt_view (opening_view lists) → IsSeatOf 0 (resting_row []) v
-first_seat lists v e f = record { one = ap (λ (u : View). u.rows) (f ∙ ap (λ ls. dealt_view (opening_view ls)) e) }
 
 pub may : (n : ℕ) (row : CoreRow) (es : List CoreEntry) (v : View) → IsSeatOf 0 row v → row.flight ≡ [] → is_batch 0 es ≡ true → is_alone n 0 (row.settled ++ es) ≡ true → MayStart n es v
 may n row es v k resting batch alone = record { row = record { part = 0; row = row }; one = k.one; resting = resting; batch = batch; alone = alone }

@@ -109,8 +109,8 @@ pub fn deal_parts<N: Naming>(
 }
 
 /// The seats of the two parts of empty lists.
-pub fn deal_empty<N: Naming>(
-    board: &Board<Untold, N>,
+pub fn deal_empty<T: Promise, N: Naming>(
+    board: &Board<T, N>,
     seats: &mut Seats<N>,
 ) -> (BoardSeat<N>, BoardSeat<N>)
     requires all { seats.old ≡ opening_view N.lists }

@@ -1,18 +1,18 @@
 //! A board that rests on no promise: each condition of its calls is shown.
 ghost use Rattle.std.specs.Prelude.{◌≡◌, [], ◌∷◌, true, IfSome};
-ghost use Rattle.txn_board.specs.Rows.{opening_view, dealt_view};
 ghost use Rattle.txn_board_tests.specs.Sure.{decided_log, closed_log, sent, marked, Rests};
 
+use crate::story::deal_empty;
 use std::alloc::{AllocError, Global};
 use std::marker::Brand;
 use txn_base::Decision;
-use txn_board::{Board, BoardSeat, Naming, Opened, OwnStart, Seats, Surely};
+use txn_board::{Board, BoardSeat, Naming, Opened, OwnStart, Surely};
 use txn_core::Skeletons;
 
 /// The first transaction of empty lists is begun, gets its part and is decided.
 fn decide<N: Naming>(board: &Board<Surely, N>, coord: &mut BoardSeat<N>)
     requires lists { N.lists ≡ [] ∷ [] ∷ [] }
-    requires seat { coord.old ≡ dealt_view (opening_view N.lists) }
+    requires seat { Rests 0 [] coord.old }
     ensures { Rests 0 decided_log coord.new }
 {
     board.start_own(coord, OwnStart::New { txn: 0 });
@@ -94,21 +94,6 @@ fn finish<N: Naming>(
     board.close_with(coord);
 }
 
-/// The seats of the coordinator and of the part.
-fn deal_both<N: Naming>(
-    board: &Board<Surely, N>,
-    seats: &mut Seats<N>,
-) -> (BoardSeat<N>, BoardSeat<N>)
-    requires all { seats.old ≡ opening_view N.lists }
-    requires lists { N.lists ≡ [] ∷ [] ∷ [] }
-    ensures coord { result.0 ≡ dealt_view (opening_view N.lists) }
-    ensures part { Rests 1 [] result.1 }
-{
-    let coord = board.deal(seats);
-    let part = board.deal(seats);
-    (coord, part)
-}
-
 /// The transaction goes from its beginning to its end, and its board is closed.
 fn decision_at<N: Naming>(opened: Opened<Surely>) -> Option<Decision>
     requires table { opened.table.shared.table_id ≡ N.table }
@@ -116,7 +101,7 @@ fn decision_at<N: Naming>(opened: Opened<Surely>) -> Option<Decision>
     requires lists { N.lists ≡ [] ∷ [] ∷ [] }
 {
     let (board, mut seats) = opened.named::<N>();
-    let (mut coord, mut part) = deal_both(&board, &mut seats);
+    let (mut coord, mut part) = deal_empty(&board, &mut seats);
     decide(&board, &mut coord);
     if !send(&board, &mut part) {
         return None;

@@ -6,7 +6,7 @@ use Rattle.txn_core.specs.Together.{is_alone}
 use Rattle.txn_core.specs.Steps.{start_row, settle_row}
 use Rattle.txn_core.specs.Kept.{resting_row}
 use Rattle.txn_board.specs.Rows.{parts_in}
-use Rattle.txn_board_tests.proofs.Shown.{first_seat, may, started, settling, settled, within}
+use Rattle.txn_board_tests.proofs.Shown.{may, started, settling, settled, within}
 use Rattle.txn_board_tests.proofs.surely.decide.Goals as goal
 
 abbrev second : CoreRow
@@ -16,7 +16,7 @@ abbrev third : CoreRow
 third = settle_row (start_row (core.AddPart (txn 0) 1 ∷ []) second)
 
 pub start_own-requires-clause-row : goal.start_own-requires-clause-row
-start_own-requires-clause-row g c = λ p. may (parts_in g.N.Naming.lists) (resting_row []) (core.New (txn 0) ∷ []) c.args.coord.now (first_seat g.N.Naming.lists c.args.coord.now c.requires.lists c.requires.seat) refl refl refl
+start_own-requires-clause-row g c = λ p. may (parts_in g.N.Naming.lists) (resting_row []) (core.New (txn 0) ∷ []) c.args.coord.now c.requires.seat refl refl refl
 
 pub start_own-requires-clause-window : goal.start_own-requires-clause-window
 start_own-requires-clause-window g c = λ p. within g.N.Naming.lists c.requires.lists
@@ -24,11 +24,11 @@ start_own-requires-clause-window g c = λ p. within g.N.Naming.lists c.requires.
 pub settle_reg-requires : goal.settle_reg-requires
 settle_reg-requires g c = λ p.
     settling (resting_row []) (core.New (txn 0)) c.start_own.new.seat
-    (started (resting_row []) (core.New (txn 0)) c.args.coord.now c.start_own.new.seat c.start_own.ensures.value (first_seat g.N.Naming.lists c.args.coord.now c.requires.lists c.requires.seat) c.start_own.ensures.view)
+    (started (resting_row []) (core.New (txn 0)) c.args.coord.now c.start_own.new.seat c.start_own.ensures.value c.requires.seat c.start_own.ensures.view)
 
 pub start_own-requires-2-clause-row : goal.start_own-requires-2-clause-row
 start_own-requires-2-clause-row g c =
-    let a = started (resting_row []) (core.New (txn 0)) c.args.coord.now c.start_own.new.seat c.start_own.ensures.value (first_seat g.N.Naming.lists c.args.coord.now c.requires.lists c.requires.seat) c.start_own.ensures.view in
+    let a = started (resting_row []) (core.New (txn 0)) c.args.coord.now c.start_own.new.seat c.start_own.ensures.value c.requires.seat c.start_own.ensures.view in
     let b = settled (resting_row []) (core.New (txn 0)) c.start_own.new.seat c.settle_reg.new.seat a c.settle_reg.ensures.view in
     λ p. may (parts_in g.N.Naming.lists) second (core.AddPart (txn 0) 1 ∷ []) c.settle_reg.new.seat b refl refl (subst (λ ls. is_alone (parts_in ls) 0 (core.New (txn 0) ∷ core.AddPart (txn 0) 1 ∷ []) ≡ true) (sym c.requires.lists) refl)
 
@@ -37,13 +37,13 @@ start_own-requires-2-clause-window g c = λ p. within g.N.Naming.lists c.require
 
 pub settle_reg-requires-2 : goal.settle_reg-requires-2
 settle_reg-requires-2 g c =
-    let a = started (resting_row []) (core.New (txn 0)) c.args.coord.now c.start_own.new.seat c.start_own.ensures.value (first_seat g.N.Naming.lists c.args.coord.now c.requires.lists c.requires.seat) c.start_own.ensures.view in
+    let a = started (resting_row []) (core.New (txn 0)) c.args.coord.now c.start_own.new.seat c.start_own.ensures.value c.requires.seat c.start_own.ensures.view in
     let b = settled (resting_row []) (core.New (txn 0)) c.start_own.new.seat c.settle_reg.new.seat a c.settle_reg.ensures.view in
     λ p. settling second (core.AddPart (txn 0) 1) c.start_own-2.new.seat (started second (core.AddPart (txn 0) 1) c.settle_reg.new.seat c.start_own-2.new.seat c.start_own-2.ensures.value b c.start_own-2.ensures.view)
 
 pub start_own-requires-3-clause-row : goal.start_own-requires-3-clause-row
 start_own-requires-3-clause-row g c =
-    let a = started (resting_row []) (core.New (txn 0)) c.args.coord.now c.start_own.new.seat c.start_own.ensures.value (first_seat g.N.Naming.lists c.args.coord.now c.requires.lists c.requires.seat) c.start_own.ensures.view in
+    let a = started (resting_row []) (core.New (txn 0)) c.args.coord.now c.start_own.new.seat c.start_own.ensures.value c.requires.seat c.start_own.ensures.view in
     let b = settled (resting_row []) (core.New (txn 0)) c.start_own.new.seat c.settle_reg.new.seat a c.settle_reg.ensures.view in
     let d = started second (core.AddPart (txn 0) 1) c.settle_reg.new.seat c.start_own-2.new.seat c.start_own-2.ensures.value b c.start_own-2.ensures.view in
     let e = settled second (core.AddPart (txn 0) 1) c.start_own-2.new.seat c.settle_reg-2.new.seat d c.settle_reg-2.ensures.view in
@@ -56,7 +56,7 @@ start_own-requires-3-clause-window g c = λ p. within g.N.Naming.lists c.require
 
 pub settle_dec-requires : goal.settle_dec-requires
 settle_dec-requires g c =
-    let a = started (resting_row []) (core.New (txn 0)) c.args.coord.now c.start_own.new.seat c.start_own.ensures.value (first_seat g.N.Naming.lists c.args.coord.now c.requires.lists c.requires.seat) c.start_own.ensures.view in
+    let a = started (resting_row []) (core.New (txn 0)) c.args.coord.now c.start_own.new.seat c.start_own.ensures.value c.requires.seat c.start_own.ensures.view in
     let b = settled (resting_row []) (core.New (txn 0)) c.start_own.new.seat c.settle_reg.new.seat a c.settle_reg.ensures.view in
     let d = started second (core.AddPart (txn 0) 1) c.settle_reg.new.seat c.start_own-2.new.seat c.start_own-2.ensures.value b c.start_own-2.ensures.view in
     let e = settled second (core.AddPart (txn 0) 1) c.start_own-2.new.seat c.settle_reg-2.new.seat d c.settle_reg-2.ensures.view in
@@ -64,7 +64,7 @@ settle_dec-requires g c =
 
 pub returns : goal.returns
 returns g c =
-    let a = started (resting_row []) (core.New (txn 0)) c.args.coord.now c.start_own.new.seat c.start_own.ensures.value (first_seat g.N.Naming.lists c.args.coord.now c.requires.lists c.requires.seat) c.start_own.ensures.view in
+    let a = started (resting_row []) (core.New (txn 0)) c.args.coord.now c.start_own.new.seat c.start_own.ensures.value c.requires.seat c.start_own.ensures.view in
     let b = settled (resting_row []) (core.New (txn 0)) c.start_own.new.seat c.settle_reg.new.seat a c.settle_reg.ensures.view in
     let d = started second (core.AddPart (txn 0) 1) c.settle_reg.new.seat c.start_own-2.new.seat c.start_own-2.ensures.value b c.start_own-2.ensures.view in
     let e = settled second (core.AddPart (txn 0) 1) c.start_own-2.new.seat c.settle_reg-2.new.seat d c.settle_reg-2.ensures.view in
