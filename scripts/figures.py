@@ -8,7 +8,7 @@ import re
 import sys
 
 TOP = os.path.join(os.path.dirname(os.path.abspath(__file__)), "..")
-BOUNDS = {"wider than 100": 531, "wider than 160": 110, "functions with more than 12 clauses": 24}
+BOUNDS = {"wider than 100": 242, "wider than 160": 45, "functions with more than 12 clauses": 24}
 FUNCTION = re.compile(r"\s*(?:pub(?:\(\w+\))? )?(?:const )?(?:unsafe )?fn (\w+)")
 CLAUSE = re.compile(r"\s*(?:requires|ensures)\b")
 

@@ -85,25 +85,33 @@ impl<R: RecordLog> Topic<R> {
     ) -> Result<(), MendError>
         requires standing { self.old.content.standing ≡ looked_at → ⊥ }
         requires backed { IsBackedOn R.RecordLog D.Disk disk.old self.old.content }
-        ensures idle { IsTrue self.old.whole → IsOk result × (self.new ≡ self.old) × (disk.new ≡ disk.old) × (steps.new ≡ steps.old) }
+        ensures idle { IsTrue self.old.whole →
+            IsOk result × (self.new ≡ self.old) × (disk.new ≡ disk.old) × (steps.new ≡ steps.old) }
         ensures ok { OnOk result (MendsWhole self.old self.new) }
         ensures err { OnErr result (IsRefusedWhole self.old self.new) }
-        ensures counted { OnOk result (steps.new + length self.old.front ≡ steps.old + length self.new.front) }
-        ensures steps_most { steps.new + length self.old.front ≤ steps.old + length self.new.front + self.old.limits.step }
+        ensures counted { OnOk result
+            (steps.new + length self.old.front ≡ steps.old + length self.new.front) }
+        ensures steps_most { steps.new + length self.old.front ≤ steps.old + length self.new.front +
+            self.old.limits.step }
         ensures settled { MayHaveSettled self.old.content self.new.content }
         ensures standing { self.new.content.standing ≡ looked_at → ⊥ }
 
         // What was settled is what the files stood for at the call.
-        ensures found { D.tells → self.new.content.standing ≡ settled → R.stands self.old.content.key (D.seen disk.old) self.new.content.batches }
+        ensures found { D.tells → self.new.content.standing ≡ settled →
+            R.stands self.old.content.key (D.seen disk.old) self.new.content.batches }
 
         // Damage is told of a record of the step behind those that were done, the first that is bad.
-        ensures damaged { (place : ℕ) → result ≡ Err (MendError.Damaged place) → IsInStep self.new (topic_total self.new) place }
-        ensures first_bad { (place : ℕ) → result ≡ Err (MendError.Damaged place) → D.tells → IsFrontOf self.old → IsFirstBadRecord self.new.content.batches place }
+        ensures damaged { (place : ℕ) → result ≡ Err (MendError.Damaged place) →
+            IsInStep self.new (topic_total self.new) place }
+        ensures first_bad { (place : ℕ) → result ≡ Err (MendError.Damaged place) → D.tells →
+            IsFrontOf self.old → IsFirstBadRecord self.new.content.batches place }
         ensures tied { D.tells → IsFrontOf self.old → IsFrontOf self.new }
         ensures backed { IsBackedOn R.RecordLog D.Disk disk.new self.new.content }
         ensures images { After D.Disk (Settles R.mine R.stands self.old.content) disk.old disk.new }
-        ensures others { ChangesOnly (R.mine self.old.content.key) (D.seen disk.old) (D.seen disk.new) }
-        ensures cause { FaultsIn D.Disk self.old.content.key.part disk.old disk.new (result ≡ Err MendError.Fault) }
+        ensures others { ChangesOnly (R.mine self.old.content.key) (D.seen disk.old)
+            (D.seen disk.new) }
+        ensures cause { FaultsIn D.Disk self.old.content.key.part disk.old disk.new
+            (result ≡ Err MendError.Fault) }
     {
         if self.whole {
             return Ok(());

@@ -126,25 +126,39 @@ impl<R: RecordLog> Coordinator<R> {
         ensures idle { IsTrue (self.old).whole → (disk.new ≡ disk.old) × (steps.new ≡ steps.old) }
         ensures ok { OnOk result (MendsWhole self.old self.new) }
         ensures err { OnErr result (IsRefusedWhole self.old self.new) }
-        ensures settled { IfErr result (λ e. (e ≡ MendError.Fault → ⊥) → IsSettledFrom (self.old).content (self.new).content) }
+        ensures settled { IfErr result (λ e. (e ≡ MendError.Fault → ⊥) →
+            IsSettledFrom (self.old).content (self.new).content) }
         ensures standing { (self.new).content.standing ≡ looked_at → ⊥ }
 
         // What was settled is what the files stood for at the call.
-        ensures found { D.tells → (self.new).content.standing ≡ settled → R.stands (self.old).content.key (D.seen disk.old) (self.new).content.batches }
-        ensures read { D.tells → OnOk result (AreRecordsTo (self.new).content (length (self.old).front) (length (self.new).front) (self.new).front) }
+        ensures found { D.tells → (self.new).content.standing ≡ settled →
+            R.stands (self.old).content.key (D.seen disk.old) (self.new).content.batches }
+        ensures read { D.tells →
+            OnOk result (AreRecordsTo (self.new).content (length (self.old).front)
+            (length (self.new).front) (self.new).front) }
 
         // Damage is told of a record of the step behind those that were done.
-        ensures damaged { (place : ℕ) → result ≡ Err (MendError.Damaged place) → IsInStep self.new self.new place }
-        ensures bad { D.tells → AreReplayed (self.old).named (self.old).content (self.old).front → (place : ℕ) → result ≡ Err (MendError.Damaged place) → IsFirstBadRecord (self.old).named (self.new).content place }
-        ensures counted { OnOk result (steps.new + length (self.old).front ≡ steps.old + length (self.new).front) }
-        ensures few { steps.new + length (self.old).front ≤ steps.old + length (self.new).front + (self.old).limits.step }
+        ensures damaged { (place : ℕ) → result ≡ Err (MendError.Damaged place) →
+            IsInStep self.new self.new place }
+        ensures bad { D.tells → AreReplayed (self.old).named (self.old).content (self.old).front →
+            (place : ℕ) → result ≡ Err (MendError.Damaged place) →
+            IsFirstBadRecord (self.old).named (self.new).content place }
+        ensures counted { OnOk result (steps.new + length (self.old).front ≡ steps.old + length
+            (self.new).front) }
+        ensures few { steps.new + length (self.old).front ≤ steps.old + length (self.new).front +
+            (self.old).limits.step }
         ensures tied { D.tells → IsFrontOf self.old → IsFrontOf self.new }
-        ensures replayed { D.tells → AreReplayed (self.old).named (self.old).content (self.old).front → AreReplayed (self.old).named (self.new).content (self.new).front }
+        ensures replayed { D.tells →
+            AreReplayed (self.old).named (self.old).content (self.old).front →
+            AreReplayed (self.old).named (self.new).content (self.new).front }
         ensures lawful { CoordLawful (self.old).named (coord_skeletons (self.new).front) }
         ensures backed { IsBackedOn R.RecordLog D.Disk disk.new (self.new).content }
-        ensures images { After D.Disk (Settles R.mine R.stands (self.old).content) disk.old disk.new }
-        ensures others { ChangesOnly (R.mine (self.old).content.key) (D.seen disk.old) (D.seen disk.new) }
-        ensures cause { FaultsIn D.Disk (self.old).content.key.part disk.old disk.new (result ≡ Err MendError.Fault) }
+        ensures images { After D.Disk (Settles R.mine R.stands
+            (self.old).content) disk.old disk.new }
+        ensures others { ChangesOnly (R.mine (self.old).content.key) (D.seen disk.old)
+            (D.seen disk.new) }
+        ensures cause { FaultsIn D.Disk (self.old).content.key.part disk.old disk.new
+            (result ≡ Err MendError.Fault) }
     {
         let _before = self.log.len();
         if self.whole {
