@@ -1,0 +1,4 @@
+pub mod Taken
+pub mod Joins
+pub mod Puts
+pub mod Fronts

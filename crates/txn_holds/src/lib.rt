@@ -1,0 +1,4 @@
+//! What a subscription knows of acknowledged places.
+#![tactic(auto)]
+
+mod spans;
