@@ -2,3 +2,6 @@ pub mod Taken
 pub mod Joins
 pub mod Puts
 pub mod Fronts
+pub mod Entries
+pub mod Only
+pub mod Snoc
