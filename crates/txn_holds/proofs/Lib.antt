@@ -5,3 +5,4 @@ pub mod Fronts
 pub mod Entries
 pub mod Only
 pub mod Snoc
+pub mod Allowed
