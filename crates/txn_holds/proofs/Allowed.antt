@@ -17,7 +17,7 @@ use Rattle.txn_model.specs.Ack.{covers, is_commit, counts, is_acked, pending, ho
 use Rattle.txn_model.proofs.Laws.Lists.{all_follow-append}
 use Rattle.txn_model.proofs.Laws.Tests.{and_l, and_r}
 use Rattle.txn_holds.specs.Holds.{without}
-use Rattle.txn_holds.proofs.Taken.{le_true, true_le}
+use Rattle.txn_holds.proofs.Covering.{le_true, true_le}
 use Rattle.txn_holds.proofs.Entries.{mark, Ends, same_equal, same_self}
 use Rattle.txn_holds.proofs.Snoc.{Adds, One, adds_acked, adds_holder, adds_one, ends_acked, ends_holder, ends_one}
 

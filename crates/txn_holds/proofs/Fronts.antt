@@ -4,8 +4,8 @@ use Rattle.std.specs.Prelude.{Option, nat_le, is_some}
 use Rattle.std.proofs.lemmas.Bool.{cases_eq, cases_order, cases_lt}
 use Rattle.txn_base.specs.declared.txn.TxnId.{TxnId}
 use Rattle.txn_holds.specs.declared.spans.Span.{Span}
-use Rattle.txn_holds.specs.Spans.{span_taken, in_front, taken_in, taken_up_to, place_past, AreSpans, IsPast, IsReach}
-use Rattle.txn_holds.proofs.Taken.{some_one, none_some, Owner, Covers, covers_taken, taken_covers, taken_none, same_taken, le_true, le_false, true_le}
+use Rattle.txn_holds.specs.Spans.{span_taken, in_front, taken_in, up_to, place_past, AreSpans, IsPast, IsReach}
+use Rattle.txn_holds.proofs.Covering.{some_one, none_some, Owner, Covers, covers_taken, taken_covers, taken_none, same_taken, le_true, le_false, true_le}
 
 -- a span of more than one place is acknowledged
 long_free : (f : ℕ → Option Span) (p : ℕ) (s : Span) → AreSpans f → f p ≡ Some s → p < s.last → s.owner ≡ None
@@ -58,7 +58,7 @@ module _ (f n : ℕ → Option Span) (place last : ℕ) (are : AreSpans f) (is :
   dropped_past q h = taken_none n q (λ o c. let w = began c.first c.span c.is in let far = is.apart c.first c.span w.1 w.0 in let from = c.from in
       let le = true_le q last h in omega (arith, far, from, le))
 
-  pub dropped_taken : (q : ℕ) → taken_in (Some last) n q ≡ taken_up_to (span_taken f) place q
+  pub dropped_taken : (q : ℕ) → taken_in (Some last) n q ≡ up_to (span_taken f) place q
   dropped_taken q = ⊎_elim
       (λ lt. let least = is.least in
       ap (λ b. if b then Some None else span_taken n q) (le_false q last lt)
@@ -76,11 +76,11 @@ module _ (f n : ℕ → Option Span) (place last : ℕ) (are : AreSpans f) (is :
       (cases_lt last q)
 
 -- what lies at or before the front, and what lies past it
-front_past : (front : Option ℕ) (q : ℕ) → place_past front ≤ q → in_front front q ≡ false
+pub front_past : (front : Option ℕ) (q : ℕ) → place_past front ≤ q → in_front front q ≡ false
 front_past None q le = refl
 front_past (Some last) q le = le_false q last (omega (arith, le))
 
-front_before : (front : Option ℕ) (q : ℕ) → q < place_past front → in_front front q ≡ true
+pub front_before : (front : Option ℕ) (q : ℕ) → q < place_past front → in_front front q ≡ true
 front_before None q lt = absurd (omega (arith, lt))
 front_before (Some last) q lt = le_true q last (omega (arith, lt))
 

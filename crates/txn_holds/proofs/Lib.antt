@@ -1,4 +1,4 @@
-pub mod Taken
+pub mod Covering
 pub mod Joins
 pub mod Puts
 pub mod Fronts
@@ -6,3 +6,4 @@ pub mod Entries
 pub mod Only
 pub mod Snoc
 pub mod Allowed
+pub mod Marks

@@ -7,7 +7,7 @@ use Rattle.txn_base.specs.declared.txn.TxnId.{TxnId}
 use Rattle.txn_model.specs.Words.{has}
 use Rattle.txn_holds.specs.declared.spans.Span.{Span}
 use Rattle.txn_holds.specs.Spans.{Rises, single, span_taken, set_each, put_each, AreSpans}
-use Rattle.txn_holds.proofs.Taken.{some_one, none_some, Owner, Covers, covers_taken, taken_covers, taken_none, same_taken}
+use Rattle.txn_holds.proofs.Covering.{some_one, none_some, Owner, Covers, covers_taken, taken_covers, taken_none, same_taken}
 
 -- a test of a list is passed or fails
 pub tested : (ps : List ℕ) (q : ℕ) → (has ps q ≡ true) ⊎ (has ps q ≡ false)

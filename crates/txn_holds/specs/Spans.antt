@@ -53,8 +53,8 @@ abbrev pub taken_in : Option ℕ → (ℕ → Option Span) → ℕ → Option (O
 taken_in front f q = if in_front front q then Some None else span_taken f q
 
 -- What f gives, but all up to a place are acknowledged.
-abbrev pub taken_up_to : (ℕ → Option (Option TxnId)) → ℕ → ℕ → Option (Option TxnId)
-taken_up_to f place q = if nat_le q place then Some None else f q
+abbrev pub up_to : (ℕ → Option (Option TxnId)) → ℕ → ℕ → Option (Option TxnId)
+up_to f place q = if nat_le q place then Some None else f q
 
 -- The first place past the front.
 abbrev pub place_past : Option ℕ → ℕ

@@ -4,7 +4,7 @@ ghost use Rattle.std.specs.Option.{option_map};
 ghost use Rattle.std.specs.Ordering.{nat_cmp};
 ghost use Rattle.std.specs.BTreeMap.{get};
 ghost use Rattle.txn_model.specs.Words.{has, set_at};
-ghost use Rattle.txn_holds.specs.Spans.{AreSpans, IsFirst, IsPast, IsReach, Rises, place_past, put_each, set_each, single, with_last, acked_span, span_taken, taken_in, taken_up_to};
+ghost use Rattle.txn_holds.specs.Spans.{AreSpans, IsFirst, IsPast, IsReach, Rises, in_front, place_past, put_each, set_each, single, with_last, acked_span, span_taken, taken_in, up_to};
 
 use std::alloc::AllocError;
 use std::collections::BTreeMap;
@@ -201,15 +201,25 @@ pub fn ack_up_to(spans: &mut BTreeMap<u64, Span>, place: u64) -> u64
     requires { AreSpans (get nat_cmp spans.old) }
     ensures spans { AreSpans (get nat_cmp spans.new) }
     ensures past { IsPast (Some result) (get nat_cmp spans.new) }
-    ensures taken { (q : ℕ) → taken_in (Some result) (get nat_cmp spans.new) q ≡ taken_up_to (span_taken (get nat_cmp spans.old)) place q }
+    ensures taken { (q : ℕ) → taken_in (Some result) (get nat_cmp spans.new) q ≡ up_to (span_taken (get nat_cmp spans.old)) place q }
 {
     let last = reach(spans, place);
     drop_to(spans, place);
     last
 }
 
+/// A place lies at or before the front.
+pub fn is_in_front(front: Option<u64>, place: u64) -> bool
+    ensures { result ≡ in_front front place }
+{
+    match front {
+        Some(last) => place <= last,
+        None => false,
+    }
+}
+
 /// The first place past a front, if there is one.
-fn next_place(front: Option<u64>) -> Option<u64>
+pub fn next_place(front: Option<u64>) -> Option<u64>
     ensures some { IfSome result (λ q. q ≡ place_past front) }
     ensures none { IfNone result (place_past front ≡ 2 ^ 64) }
 {

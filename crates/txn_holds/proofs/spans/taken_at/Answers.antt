@@ -4,7 +4,7 @@ use Rattle.std.specs.Ordering.{nat_cmp}
 use Rattle.std.specs.BTreeMap.{get}
 use Rattle.txn_model.specs.Words.{when}
 use Rattle.txn_holds.specs.declared.spans.Span.{Span}
-use Rattle.txn_holds.proofs.Taken.{none_some, le_true, le_false, taken_last, taken_none}
+use Rattle.txn_holds.proofs.Covering.{none_some, le_true, le_false, taken_last, taken_none}
 use Rattle.txn_holds.proofs.spans.taken_at.Goals as goal
 
 pub returns-then-span-place : goal.returns-then-span-place

@@ -1,0 +1,29 @@
+-- Which places are taken.
+use Rattle.std.specs.Prelude.{◌≡◌, ◌<◌, ◌≤◌, ◌^◌, ℕ, nat_le, if◌then◌else◌, List, Option, Some, None}
+use Rattle.std.specs.Map.{lookup}
+use Rattle.std.specs.BTreeMap.{is_at}
+use Rattle.std.specs.Ordering.{nat_cmp}
+use Rattle.txn_base.specs.declared.txn.TxnId.{TxnId}
+use Rattle.txn_holds.specs.declared.spans.Span.{Span}
+use Rattle.txn_holds.specs.Spans.{taken_in, AreSpans, IsPast, IsFirst}
+pub use Rattle.txn_holds.specs.Spans.{up_to}
+
+-- The front, and the spans past it by the first place of each.
+pub record TakenView : Type 0 where
+  pub front : Option ℕ
+  pub spans : List (ℕ × Span)
+
+-- How a place is taken: Some None where it is acknowledged, Some (Some x) where x holds it, None where it is free.
+abbrev pub taken : TakenView → ℕ → Option (Option TxnId)
+taken v q = taken_in v.front (λ p. lookup (is_at (nat_cmp p)) v.spans) q
+
+-- The place isn't acknowledged, and all before it are.
+pub record IsUnacked (v : TakenView) (place : ℕ) : Type 0 where
+  pub here : taken v place ≡ Some None → ⊥
+  pub before : (q : ℕ) → q < place → taken v q ≡ Some None
+
+-- What is kept of them: the spans lie apart, past the front, which can't go on.
+pub record IsTaken (front : Option ℕ) (f : ℕ → Option Span) : Type 0 where
+  pub spans : AreSpans f
+  pub past : IsPast front f
+  pub first : IsFirst front f
