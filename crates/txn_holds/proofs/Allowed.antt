@@ -199,3 +199,9 @@ lawful_one a h = one_from [] a (λ q free. tt) h
 
 pub lawful_more : (a : List AckEntry) (e : AckEntry) → AckLawful a → ack_allows a e ≡ true → AckLawful (a ++ e ∷ [])
 lawful_more a e lawful h = all_follow-append ack_allows [] a (e ∷ []) ∙ ap (λ b. b && (ack_allows a e && true)) lawful ∙ ap (λ b. b && true) h
+
+pub hold_free : (a : List AckEntry) (x : TxnId) (ps : List ℕ) → ack_allows a (ack.Hold x ps) ≡ true → (q : ℕ) → has ps q ≡ true → (is_acked a q ≡ false) × (holder_of a q ≡ None)
+hold_free a x ps h q there = free_parts a q (all_has (is_free a) ps q (and_l (list_all (is_free a) ps) (is_none (mark a x)) h) there)
+
+pub plain_free : (a : List AckEntry) (ps : List ℕ) → ack_allows a (ack.Plain ps) ≡ true → (q : ℕ) → has ps q ≡ true → (is_acked a q ≡ false) × (holder_of a q ≡ None)
+plain_free a ps h q there = free_parts a q (all_has (is_free a) ps q (and_l (list_all (is_free a) ps) true h) there)

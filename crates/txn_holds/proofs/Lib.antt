@@ -7,3 +7,5 @@ pub mod Only
 pub mod Snoc
 pub mod Allowed
 pub mod Marks
+pub mod Counts
+pub mod Kept

@@ -1,12 +1,15 @@
 -- What is kept of a subscription's entries.
-use Rattle.std.specs.Prelude.{◌≡◌, ℕ, if◌then◌else◌, List, [], Option, Some, None, is_none}
+use Rattle.std.specs.Prelude.{◌≡◌, ℕ, ◌≤◌, nat_le, Bool, true, false, if◌then◌else◌, List, [], length, All, Option, Some, None, is_none}
 use Rattle.std.specs.List.{flat_map}
 use Rattle.txn_base.specs.declared.txn.TxnId.{TxnId}
+use Rattle.txn_base.specs.declared.txn.Decision.{Decision}
+use Rattle.txn_base.specs.Records.{IsAckEntry}
 use Rattle.txn_base.specs.declared.entry.AckEntry.{AckEntry}
 use Rattle.txn_base.specs.declared.entry.AckEntry.TheVariants as ack
 use Rattle.txn_model.specs.Skeletons.{same_txn, ack_skeletons}
 use Rattle.txn_model.specs.Topic.{marker_of}
-use Rattle.txn_model.specs.Ack.{is_held_by}
+use Rattle.txn_model.specs.Ack.{is_acked, holder_of, held_count, is_held_by, AckLawful}
+use Rattle.txn_model.specs.Words.{has}
 
 -- The places that an entry lists as an individual hold of x.
 abbrev pub listed : TxnId → AckEntry → List ℕ
@@ -20,3 +23,47 @@ held_places a x = if is_none (marker_of (ack_skeletons a) x) then flat_map (list
 -- The holder, but none where it is x.
 abbrev pub without : TxnId → Option TxnId → Option TxnId
 without x holder = if is_held_by x holder then None else holder
+
+-- The entries, and for how many markers there is room.
+pub record HoldsView : Type 0 where
+  pub entries : List AckEntry
+  pub ends : ℕ
+
+-- By how a place is taken: it is acknowledged; x holds it by itself.
+abbrev pub is_ack : Option (Option TxnId) → Bool
+is_ack (Some None) = true
+is_ack _ = false
+
+abbrev pub is_single : TxnId → Option (Option TxnId) → Bool
+is_single x None = false
+is_single x (Some owner) = is_held_by x owner
+
+-- The holder of a place that nobody has by itself: that of the cumulative hold which covers it.
+abbrev pub holder_up_to : Option (ℕ × TxnId) → ℕ → Option TxnId
+holder_up_to None q = None
+holder_up_to (Some up) q = if nat_le q up.0 then Some up.1 else None
+
+-- The holder of a place, by how it is taken and by the cumulative hold.
+abbrev pub holder_at : Option (ℕ × TxnId) → ℕ → Option (Option TxnId) → Option TxnId
+holder_at up q None = holder_up_to up q
+holder_at up q (Some owner) = owner
+
+-- In the list a, x holds a place at or before this one.
+pub record IsLive (a : List AckEntry) (last : ℕ) (x : TxnId) : Type 0 where
+  pub at : ℕ
+  pub within : at ≤ last
+  pub held : holder_of a at ≡ Some x
+
+-- What is kept of the list a: how each place is taken, the pending cumulative hold, the places that each transaction holds one by
+-- one, the markers, and how many places are held one by one.
+pub record IsHolds (a : List AckEntry) (t : ℕ → Option (Option TxnId)) (up : Option (ℕ × TxnId)) (rows : TxnId → List ℕ) (ends : TxnId → Option Decision) (held : ℕ) : Type 0 where
+  pub lawful : AckLawful a
+  pub each : All IsAckEntry a
+  pub acked : (q : ℕ) → is_acked a q ≡ is_ack (t q)
+  pub holder : (q : ℕ) → holder_of a q ≡ holder_at up q (t q)
+  pub whole : (u : ℕ) (x : TxnId) → up ≡ Some (u, x) → (q : ℕ) → q ≤ u → is_acked a q ≡ false → holder_of a q ≡ Some x
+  pub live : (u : ℕ) (x : TxnId) → up ≡ Some (u, x) → IsLive a u x
+  pub rows_are : (x : TxnId) → rows x ≡ held_places a x
+  pub singles : (x : TxnId) (q : ℕ) → has (held_places a x) q ≡ is_single x (t q)
+  pub marked : (x : TxnId) → ends x ≡ marker_of (ack_skeletons a) x
+  pub held_is : held ≡ held_count a
