@@ -9,3 +9,5 @@ pub mod Allowed
 pub mod Marks
 pub mod Counts
 pub mod Kept
+pub mod Keys
+pub mod Added
