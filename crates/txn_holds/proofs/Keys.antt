@@ -1,6 +1,6 @@
 -- Rows of places, by the two numbers of a transaction.
 use Rattle.std.proofs.Common.{◌≡◌, ℕ, ◌&&◌, ◌==◌, eqb-true, Bool, true, false, cond, if◌then◌else◌, List, [], ◌++◌, Some, None, refl, sym, ap, ◌∙◌, true≢false}
-use Rattle.std.specs.Prelude.{Option, is_none, is_some, unwrap_or}
+use Rattle.std.specs.Prelude.{Option, is_none, is_some, unwrap_or, Result, Ok, Err, IsOk, OnOk}
 use Rattle.std.specs.Borrow.{Bor}
 use Rattle.std.specs.Option.{option_copied}
 use Rattle.txn_base.specs.declared.txn.TxnId.{TxnId}
@@ -34,3 +34,7 @@ row_gone f n x new y = ap (λ o. unwrap_or o []) (new (key_of y)) ∙ pick (same
 pub no_row : (o : Option (List ℕ)) (b : Bool) → b ≡ false → b ≡ is_some o → o ≡ None
 no_row None b h k = refl
 no_row (Some l) b h k = absurd (true≢false (sym k ∙ h))
+
+pub at_ok : {T E : Type 0} (r : Result T E) (P : Type 0) → IsOk r → OnOk r P → P
+at_ok (Ok v) P is h = h
+at_ok (Err e) P is h = absurd (true≢false (sym is))

@@ -11,3 +11,4 @@ pub mod Counts
 pub mod Kept
 pub mod Keys
 pub mod Added
+pub mod Steps

@@ -1,8 +1,10 @@
 -- What is kept of a subscription's entries.
-use Rattle.std.specs.Prelude.{◌≡◌, ℕ, ◌≤◌, nat_le, Bool, true, false, if◌then◌else◌, List, [], length, All, Option, Some, None, is_none}
+use Rattle.std.specs.Prelude.{◌≡◌, ℕ, ◌≤◌, ◌<◌, nat_le, max, Bool, true, false, if◌then◌else◌, List, [], length, All, Option, Some, None, is_none}
 use Rattle.std.specs.List.{flat_map}
 use Rattle.txn_base.specs.declared.txn.TxnId.{TxnId}
 use Rattle.txn_base.specs.declared.txn.Decision.{Decision}
+use Rattle.txn_base.specs.declared.txn.Decision.TheVariants.{Commit, Abort}
+use Rattle.txn_holds.specs.Spans.{up_to}
 use Rattle.txn_base.specs.Records.{IsAckEntry}
 use Rattle.txn_base.specs.declared.entry.AckEntry.{AckEntry}
 use Rattle.txn_base.specs.declared.entry.AckEntry.TheVariants as ack
@@ -47,6 +49,36 @@ holder_up_to (Some up) q = if nat_le q up.0 then Some up.1 else None
 abbrev pub holder_at : Option (ℕ × TxnId) → ℕ → Option (Option TxnId) → Option TxnId
 holder_at up q None = holder_up_to up q
 holder_at up q (Some owner) = owner
+
+-- The place of the cumulative hold, once there is one up to this place.
+abbrev pub raised : Option (ℕ × TxnId) → ℕ → ℕ
+raised None place = place
+raised (Some up) place = max up.0 place
+
+-- How a held place is taken after the marker of its transaction.
+abbrev pub left_by : Decision → Option (Option TxnId)
+left_by Commit = Some None
+left_by Abort = None
+
+-- The place of the cumulative hold, where it is of x; the hold that is left after a marker of x.
+abbrev pub own_up : TxnId → Option (ℕ × TxnId) → Option ℕ
+own_up x None = None
+own_up x (Some up) = if same_txn x up.1 then Some up.0 else None
+
+abbrev pub left_up : TxnId → Option (ℕ × TxnId) → Option (ℕ × TxnId)
+left_up x None = None
+left_up x (Some up) = if same_txn x up.1 then None else Some up
+
+-- How a place is taken after a cumulative hold up to this place was ended, if there was one.
+abbrev pub after_up : Option ℕ → Decision → (ℕ → Option (Option TxnId)) → ℕ → Option (Option TxnId)
+after_up None d t q = t q
+after_up (Some last) Commit t q = up_to t last q
+after_up (Some last) Abort t q = t q
+
+-- In the list a, the place isn't acknowledged, and all before it are.
+pub record IsFirstUnacked (a : List AckEntry) (place : ℕ) : Type 0 where
+  pub here : is_acked a place ≡ false
+  pub before : (q : ℕ) → q < place → is_acked a q ≡ true
 
 -- In the list a, x holds a place at or before this one.
 pub record IsLive (a : List AckEntry) (last : ℕ) (x : TxnId) : Type 0 where

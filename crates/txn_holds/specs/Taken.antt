@@ -14,13 +14,13 @@ pub record TakenView : Type 0 where
   pub spans : List (ℕ × Span)
 
 -- How a place is taken: Some None where it is acknowledged, Some (Some x) where x holds it, None where it is free.
-abbrev pub taken : TakenView → ℕ → Option (Option TxnId)
-taken v q = taken_in v.front (λ p. lookup (is_at (nat_cmp p)) v.spans) q
+abbrev pub how_taken : TakenView → ℕ → Option (Option TxnId)
+how_taken v q = taken_in v.front (λ p. lookup (is_at (nat_cmp p)) v.spans) q
 
 -- The place isn't acknowledged, and all before it are.
 pub record IsUnacked (v : TakenView) (place : ℕ) : Type 0 where
-  pub here : taken v place ≡ Some None → ⊥
-  pub before : (q : ℕ) → q < place → taken v q ≡ Some None
+  pub here : how_taken v place ≡ Some None → ⊥
+  pub before : (q : ℕ) → q < place → how_taken v q ≡ Some None
 
 -- What is kept of them: the spans lie apart, past the front, which can't go on.
 pub record IsTaken (front : Option ℕ) (f : ℕ → Option Span) : Type 0 where

@@ -2,6 +2,9 @@
 #![tactic(auto)]
 
 mod entry;
+mod holds;
 mod rows;
 mod spans;
 mod taken;
+
+pub use holds::Holds;

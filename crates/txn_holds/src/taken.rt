@@ -2,7 +2,7 @@
 ghost use Rattle.std.specs.Prelude.{◌≡◌, ◌<◌, ◌^◌, ℕ, Option, Some, None, IfSome, IfNone, OnErr, OnOk, true};
 ghost use Rattle.txn_model.specs.Words.{has};
 ghost use Rattle.txn_holds.specs.Spans.{Rises, set_each};
-ghost use Rattle.txn_holds.specs.Taken.{taken, up_to, IsUnacked};
+ghost use Rattle.txn_holds.specs.Taken.{how_taken, up_to, IsUnacked};
 
 use crate::spans::{Span, ack_all, ack_up_to, go_on, is_in_front, next_place, put_all, take_all, taken_at};
 use std::alloc::{AllocError, Global};
@@ -33,7 +33,7 @@ impl Model for Taken {
 impl Taken {
     /// No place is taken.
     pub fn new(alloc: Global) -> Taken
-        ensures { (q : ℕ) → taken result q ≡ None }
+        ensures { (q : ℕ) → how_taken result q ≡ None }
     {
         Taken {
             front: None,
@@ -43,7 +43,7 @@ impl Taken {
 
     /// How a place is taken: acknowledged, or held by a transaction.
     pub fn at(&self, place: u64) -> Option<Option<TxnId>>
-        ensures { result ≡ taken self.now place }
+        ensures { result ≡ how_taken self.now place }
     {
         if is_in_front(self.front, place) {
             return Some(None);
@@ -54,7 +54,7 @@ impl Taken {
     /// The first place that isn't acknowledged, if there is one.
     pub fn first(&self) -> Option<u64>
         ensures some { IfSome result (IsUnacked self.now) }
-        ensures none { IfNone result ((q : ℕ) → q < 2 ^ 64 → taken self.now q ≡ Some None) }
+        ensures none { IfNone result ((q : ℕ) → q < 2 ^ 64 → how_taken self.now q ≡ Some None) }
     {
         let _ = &self.spans;
         next_place(self.front)
@@ -63,9 +63,9 @@ impl Taken {
     /// A transaction holds places that aren't taken. An `Err` changes nothing.
     pub fn hold(&mut self, places: &[u64], txn: TxnId) -> Result<(), AllocError>
         requires order { Rises places.now }
-        requires free { (q : ℕ) → has places.now q ≡ true → taken self.old q ≡ None }
-        ensures ok { OnOk result ((q : ℕ) → taken self.new q ≡ set_each (taken self.old) places.now (Some (Some txn)) q) }
-        ensures err { OnErr result ((q : ℕ) → taken self.new q ≡ taken self.old q) }
+        requires free { (q : ℕ) → has places.now q ≡ true → how_taken self.old q ≡ None }
+        ensures ok { OnOk result ((q : ℕ) → how_taken self.new q ≡ set_each (how_taken self.old) places.now (Some (Some txn)) q) }
+        ensures err { OnErr result ((q : ℕ) → how_taken self.new q ≡ how_taken self.old q) }
     {
         if let Err(failed) = put_all(&mut self.spans, places, Some(txn)) {
             return Err(failed);
@@ -76,9 +76,9 @@ impl Taken {
     /// Acknowledges places that aren't taken. An `Err` changes nothing.
     pub fn acknowledge(&mut self, places: &[u64]) -> Result<(), AllocError>
         requires order { Rises places.now }
-        requires free { (q : ℕ) → has places.now q ≡ true → taken self.old q ≡ None }
-        ensures ok { OnOk result ((q : ℕ) → taken self.new q ≡ set_each (taken self.old) places.now (Some None) q) }
-        ensures err { OnErr result ((q : ℕ) → taken self.new q ≡ taken self.old q) }
+        requires free { (q : ℕ) → has places.now q ≡ true → how_taken self.old q ≡ None }
+        ensures ok { OnOk result ((q : ℕ) → how_taken self.new q ≡ set_each (how_taken self.old) places.now (Some None) q) }
+        ensures err { OnErr result ((q : ℕ) → how_taken self.new q ≡ how_taken self.old q) }
     {
         if let Err(failed) = put_all(&mut self.spans, places, None) {
             return Err(failed);
@@ -90,8 +90,8 @@ impl Taken {
 
     /// Acknowledges places that a transaction holds.
     pub fn commit(&mut self, places: &[u64], txn: TxnId)
-        requires { (q : ℕ) → has places.now q ≡ true → taken self.old q ≡ Some (Some txn) }
-        ensures { (q : ℕ) → taken self.new q ≡ set_each (taken self.old) places.now (Some None) q }
+        requires { (q : ℕ) → has places.now q ≡ true → how_taken self.old q ≡ Some (Some txn) }
+        ensures { (q : ℕ) → how_taken self.new q ≡ set_each (how_taken self.old) places.now (Some None) q }
     {
         let _ = txn;
         ack_all(&mut self.spans, places);
@@ -100,8 +100,8 @@ impl Taken {
 
     /// Lets go places that a transaction holds.
     pub fn abort(&mut self, places: &[u64], txn: TxnId)
-        requires { (q : ℕ) → has places.now q ≡ true → taken self.old q ≡ Some (Some txn) }
-        ensures { (q : ℕ) → taken self.new q ≡ set_each (taken self.old) places.now None q }
+        requires { (q : ℕ) → has places.now q ≡ true → how_taken self.old q ≡ Some (Some txn) }
+        ensures { (q : ℕ) → how_taken self.new q ≡ set_each (how_taken self.old) places.now None q }
     {
         let _ = txn;
         take_all(&mut self.spans, places);
@@ -109,7 +109,7 @@ impl Taken {
 
     /// Acknowledges all places up to one.
     pub fn acknowledge_up_to(&mut self, place: u64)
-        ensures { (q : ℕ) → taken self.new q ≡ up_to (taken self.old) place q }
+        ensures { (q : ℕ) → how_taken self.new q ≡ up_to (how_taken self.old) place q }
     {
         if is_in_front(self.front, place) {
             return;
