@@ -134,8 +134,14 @@ module _ (f n : ℕ → Option Span) (place : ℕ) (are : AreSpans f) (there : i
   back q ne o c = let w = was c.first c.span c.is in let from = c.from in let to = c.to in let same = w.same in
       ⊎_elim
       (λ e. let less : c.first < q = ⊎_elim (λ l. l) (λ g. absurd (ne (omega (arith, from, g, e)))) (cases_lt c.first q) in
-      record { first = c.first; span = w.span; is = w.is; from = from; to = omega (arith, to, same);
-        owned = long_free c.first w.span q w.is less (omega (arith, to, same)) w.span.owner refl ∙ sym (w.owner.0 e) ∙ c.owned })
+      record {
+        first = c.first;
+        span = w.span;
+        is = w.is;
+        from = from;
+        to = omega (arith, to, same);
+        owned = long_free c.first w.span q w.is less (omega (arith, to, same)) w.span.owner refl ∙ sym (w.owner.0 e) ∙ c.owned;
+      })
       (λ no. record { first = c.first; span = w.span; is = w.is; from = from; to = omega (arith, to, same); owned = sym (w.owner.1 no) ∙ c.owned })
       (cases_eq c.first place)
 

@@ -74,11 +74,7 @@ fn ack_span(spans: &mut BTreeMap<u64, Span>, first: u64)
 }
 
 /// Puts a span of one place. An `Err` changes nothing.
-fn put(
-    spans: &mut BTreeMap<u64, Span>,
-    place: u64,
-    owner: Option<TxnId>,
-) -> Result<(), AllocError>
+fn put(spans: &mut BTreeMap<u64, Span>, place: u64, owner: Option<TxnId>) -> Result<(), AllocError>
     ensures at { OnOk result (get nat_cmp spans.new place ≡ Some (single owner place)) }
     ensures others { (q : ℕ) → (q ≡ place → ⊥) → get nat_cmp spans.new q ≡ get nat_cmp spans.old q }
     ensures err { OnErr result ((q : ℕ) → get nat_cmp spans.new q ≡ get nat_cmp spans.old q) }

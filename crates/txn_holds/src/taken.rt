@@ -4,7 +4,9 @@ ghost use Rattle.txn_model.specs.Words.{has};
 ghost use Rattle.txn_holds.specs.Spans.{Rises, set_each};
 ghost use Rattle.txn_holds.specs.Taken.{how_taken, up_to, IsUnacked};
 
-use crate::spans::{Span, ack_all, ack_up_to, go_on, is_in_front, next_place, put_all, take_all, taken_at};
+use crate::spans::{
+    Span, ack_all, ack_up_to, go_on, is_in_front, next_place, put_all, take_all, taken_at,
+};
 use std::alloc::{AllocError, Global};
 use std::collections::BTreeMap;
 use std::marker::Model;
