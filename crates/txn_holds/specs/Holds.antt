@@ -1,10 +1,15 @@
 -- What is kept of a subscription's entries.
-use Rattle.std.specs.Prelude.{◌≡◌, ℕ, ◌≤◌, ◌<◌, nat_le, max, Bool, true, false, if◌then◌else◌, List, [], length, All, Option, Some, None, is_none}
+use Rattle.std.specs.Prelude.{◌≡◌, ℕ, ◌≤◌, ◌<◌, ◌^◌, ◌∷◌, ◌++◌, nat_le, max, Bool, true, false, if◌then◌else◌, List, [], length, All, Option, Some, None, is_none}
 use Rattle.std.specs.List.{flat_map}
 use Rattle.txn_base.specs.declared.txn.TxnId.{TxnId}
 use Rattle.txn_base.specs.declared.txn.Decision.{Decision}
 use Rattle.txn_base.specs.declared.txn.Decision.TheVariants.{Commit, Abort}
-use Rattle.txn_holds.specs.Spans.{up_to}
+use Rattle.txn_base.specs.Content.{LedgerContent}
+use Rattle.txn_base.specs.Decoded.{ack_entries}
+use Rattle.txn_model.specs.Table.{ack_marker}
+use Rattle.txn_holds.specs.Spans.{set_each, up_to}
+use Rattle.txn_holds.specs.Taken.{TakenView, how_taken}
+use Rattle.txn_holds.specs.Rows.{key_of, row_of}
 use Rattle.txn_base.specs.Records.{IsAckEntry}
 use Rattle.txn_base.specs.declared.entry.AckEntry.{AckEntry}
 use Rattle.txn_base.specs.declared.entry.AckEntry.TheVariants as ack
@@ -99,3 +104,26 @@ pub record IsHolds (a : List AckEntry) (t : ℕ → Option (Option TxnId)) (up :
   pub singles : (x : TxnId) (q : ℕ) → has (held_places a x) q ≡ is_single x (t q)
   pub marked : (x : TxnId) → ends x ≡ marker_of (ack_skeletons a) x
   pub held_is : held ≡ held_count a
+
+-- They are kept by these tables: how places are taken, the rows by key, the decisions by key.
+abbrev pub KeepsHolds : List AckEntry → TakenView → Option (ℕ × TxnId) → (ℕ × ℕ → Option (List ℕ)) → (ℕ × ℕ → Option Decision) → ℕ → Type 0
+KeepsHolds a v up rows decisions held = IsHolds a (how_taken v) up (row_of rows) (λ x. decisions (key_of x)) held
+
+-- The entries of a ledger's content.
+abbrev pub entries_in : LedgerContent → List AckEntry
+entries_in content = ack_entries content.batches
+
+-- In the list a, all places are acknowledged.
+abbrev pub AreAllAcked : List AckEntry → Type 0
+AreAllAcked a = (q : ℕ) → q < 2 ^ 64 → is_acked a q ≡ true
+
+-- The marker of x stands behind the others.
+abbrev pub IsMarked : TxnId → Decision → List AckEntry → List AckEntry → Type 0
+IsMarked x d a b = b ≡ a ++ ack_marker x d ∷ []
+
+-- These held places, or those of a cumulative hold if there was one, were acknowledged or let go by the decision.
+abbrev pub IsRowEnded : Decision → List ℕ → TakenView → TakenView → Type 0
+IsRowEnded d places v w = (q : ℕ) → how_taken w q ≡ set_each (how_taken v) places (left_by d) q
+
+abbrev pub IsUpEnded : Decision → Option ℕ → TakenView → TakenView → Type 0
+IsUpEnded d last v w = (q : ℕ) → how_taken w q ≡ after_up last d (how_taken v) q

@@ -1,7 +1,8 @@
 -- Spans of places. A function of a place says which span begins there.
-use Rattle.std.specs.Prelude.{◌≡◌, ◌<◌, ◌≤◌, ◌^◌, ℕ, suc, All, [], ◌∷◌, nat_le, Bool, true, false, if◌then◌else◌, List, Option, Some, None}
+use Rattle.std.specs.Prelude.{◌≡◌, ◌<◌, ◌≤◌, ◌^◌, ℕ, suc, All, [], ◌∷◌, nat_le, Bool, true, false, if◌then◌else◌, List, Option, Some, None, is_some}
+use Rattle.std.specs.Option.{option_map}
 use Rattle.txn_base.specs.declared.txn.TxnId.{TxnId}
-use Rattle.txn_model.specs.Words.{first_of, when, below, has}
+use Rattle.txn_model.specs.Words.{first_of, when, below, has, set_at}
 use Rattle.txn_holds.specs.declared.spans.Span.{Span}
 
 -- The span with another last place; the span, acknowledged.
@@ -75,3 +76,56 @@ pub record IsReach (f : ℕ → Option Span) (place last : ℕ) : Type 0 where
   pub within : (p : ℕ) (s : Span) → f p ≡ Some s → p ≤ place → s.last ≤ last
   pub acked : (q : ℕ) → place < q → q ≤ last → span_taken f q ≡ Some None
   pub apart : (p : ℕ) (s : Span) → f p ≡ Some s → place < p → last < p
+
+-- Of two functions of a place: they are the same; the same but here; the same past a place.
+abbrev pub Same : {V : Type 0} → (ℕ → V) → (ℕ → V) → Type 0
+Same f n = (q : ℕ) → n q ≡ f q
+
+abbrev pub SameBut : ℕ → (ℕ → Option Span) → (ℕ → Option Span) → Type 0
+SameBut place f n = (q : ℕ) → (q ≡ place → ⊥) → n q ≡ f q
+
+abbrev pub SamePast : ℕ → (ℕ → Option Span) → (ℕ → Option Span) → Type 0
+SamePast place f n = (q : ℕ) → place < q → n q ≡ f q
+
+-- Each of these places has this value; they have it after, and the others are as before.
+abbrev pub AllAre : {V : Type 0} → List ℕ → V → (ℕ → V) → Type 0
+AllAre places v f = (q : ℕ) → has places q ≡ true → f q ≡ v
+
+abbrev pub AreSet : {V : Type 0} → List ℕ → V → (ℕ → V) → (ℕ → V) → Type 0
+AreSet places v f n = (q : ℕ) → n q ≡ set_each f places v q
+
+-- The pair is a span and the place where it begins; the place is the last up to this one where a span begins.
+abbrev pub Begins : (ℕ → Option Span) → ℕ × Span → Type 0
+Begins f p = f p.0 ≡ Some p.1
+
+abbrev pub IsLast : (ℕ → Option Span) → ℕ → ℕ → Type 0
+IsLast f place last = (q : ℕ) → q ≤ place → is_some (f q) ≡ true → q ≤ last
+
+-- The span that begins here is changed so, if there is one.
+abbrev pub IsChanged : (Span → Span) → ℕ → (ℕ → Option Span) → (ℕ → Option Span) → Type 0
+IsChanged change first f n = n first ≡ option_map change (f first)
+
+-- The spans take each of these places.
+abbrev pub AreTaken : List ℕ → (ℕ → Option Span) → Type 0
+AreTaken places f = (q : ℕ) → has places q ≡ true → is_some (span_taken f q) ≡ true
+
+-- Places are taken as before; but that one is acknowledged, that these are, that all up to one are, where the last is the front.
+abbrev pub TakesSame : (ℕ → Option Span) → (ℕ → Option Span) → Type 0
+TakesSame f n = (q : ℕ) → span_taken n q ≡ span_taken f q
+
+abbrev pub AcksOne : ℕ → (ℕ → Option Span) → (ℕ → Option Span) → Type 0
+AcksOne place f n = (q : ℕ) → span_taken n q ≡ set_at (span_taken f) place (Some None) q
+
+abbrev pub AcksAll : List ℕ → (ℕ → Option Span) → (ℕ → Option Span) → Type 0
+AcksAll places f n = (q : ℕ) → span_taken n q ≡ set_each (span_taken f) places (Some None) q
+
+abbrev pub AcksUpTo : ℕ → ℕ → (ℕ → Option Span) → (ℕ → Option Span) → Type 0
+AcksUpTo place last f n = (q : ℕ) → taken_in (Some last) n q ≡ up_to (span_taken f) place q
+
+-- With another front, places are taken as before.
+abbrev pub GoesOn : Option ℕ → Option ℕ → (ℕ → Option Span) → (ℕ → Option Span) → Type 0
+GoesOn front front' f n = (q : ℕ) → taken_in front' n q ≡ taken_in front f q
+
+-- All places are acknowledged.
+abbrev pub AllAcked : (ℕ → Option (Option TxnId)) → Type 0
+AllAcked t = (q : ℕ) → q < 2 ^ 64 → t q ≡ Some None

@@ -1,6 +1,6 @@
 //! The entries of a subscription, which are kept for clauses alone.
 ghost use Rattle.std.specs.Prelude.{◌≡◌, [], ◌∷◌, ◌++◌, Some};
-ghost use Rattle.txn_base.specs.Decoded.{ack_entries};
+ghost use Rattle.txn_holds.specs.Holds.{entries_in};
 ghost use Rattle.txn_base.specs.Records.{IsAckEntry};
 ghost use Rattle.txn_model.specs.Table.{ack_marker};
 ghost use Rattle.txn_model.specs.Skeletons.{same_txn};
@@ -21,7 +21,7 @@ impl<'a, 'b> ReadsContent<(&'a ContentCarrier, &'b AckEntry)> for Added {
 /// These entries, and one behind them.
 pub fn with_entry(front: &ContentCarrier, entry: &AckEntry) -> ContentCarrier
     requires { IsAckEntry entry.now }
-    ensures { ack_entries result.content.batches ≡ ack_entries front.now.content.batches ++ entry.now ∷ [] }
+    ensures { entries_in result.content ≡ entries_in front.now.content ++ entry.now ∷ [] }
 {
     ContentCarrier::of::<(&ContentCarrier, &AckEntry), Added>(&(front, entry))
 }

@@ -7,12 +7,11 @@ ghost use Rattle.txn_model.specs.Topic.{marker_of};
 ghost use Rattle.txn_model.specs.Ack.{is_acked, holder_of, held_count, ack_allows, AckLawful};
 ghost use Rattle.txn_model.specs.Table.{ack_marker};
 ghost use Rattle.indexmap.specs.IndexMap.{get};
-ghost use Rattle.txn_base.specs.declared.txn.TxnId.{TxnId};
-ghost use Rattle.txn_model.specs.Words.{has};
-ghost use Rattle.txn_holds.specs.Spans.{set_each};
+ghost use Rattle.txn_holds.specs.Spans.{AllAre};
 ghost use Rattle.txn_holds.specs.Taken.{how_taken};
-ghost use Rattle.txn_holds.specs.Rows.{same_key, row_of, row_ended};
-ghost use Rattle.txn_holds.specs.Holds.{IsFirstUnacked, is_ack, holder_up_to, raised, left_by, own_up, left_up, after_up};
+ghost use Rattle.txn_holds.specs.Rows.{IsEnded, same_key, row_of};
+ghost use Rattle.txn_holds.specs.Holds.{AreAllAcked, IsFirstUnacked, IsMarked, IsRowEnded, IsUpEnded};
+ghost use Rattle.txn_holds.specs.Holds.{is_ack, holder_up_to, raised, own_up, left_up};
 
 use crate::entry::{is_same, marker, with_entry};
 use crate::rows::{Row, add_places, take_row};
@@ -40,16 +39,14 @@ pub struct Holds {
 
 impl Model for Holds {
     ghost use Rattle.indexmap.specs.IndexMap.{get, spare};
-    ghost use Rattle.txn_base.specs.Decoded.{ack_entries};
-    ghost use Rattle.txn_holds.specs.Taken.{how_taken};
-    ghost use Rattle.txn_holds.specs.Rows.{key_of, same_key, row_of};
-    ghost use Rattle.txn_holds.specs.Holds.{HoldsView, IsHolds};
+    ghost use Rattle.txn_holds.specs.Rows.{same_key};
+    ghost use Rattle.txn_holds.specs.Holds.{HoldsView, KeepsHolds, entries_in};
 
     ghost Value = { HoldsView };
 
-    ghost view = { λ h. record { entries = ack_entries h.front.content.batches; ends = spare h.decisions } };
+    ghost view = { λ h. record { entries = entries_in h.front.content; ends = spare h.decisions } };
 
-    ghost invariant = { λ h. IsHolds (ack_entries h.front.content.batches) (how_taken h.taken) h.up (row_of (get same_key h.rows)) (λ x. get same_key h.decisions (key_of x)) h.held };
+    ghost invariant = { λ h. KeepsHolds (entries_in h.front.content) h.taken h.up (get same_key h.rows) (get same_key h.decisions) h.held };
 }
 
 impl Holds {
@@ -103,7 +100,7 @@ impl Holds {
     /// The first place that isn't acknowledged.
     pub fn first_unacked(&self) -> Option<u64>
         ensures some { IfSome result (IsFirstUnacked self.now.entries) }
-        ensures none { IfNone result ((q : ℕ) → q < 2 ^ 64 → is_acked self.now.entries q ≡ true) }
+        ensures none { IfNone result (AreAllAcked self.now.entries) }
     {
         self.taken.first()
     }
@@ -219,7 +216,7 @@ impl Holds {
     fn add_marker(&mut self, txn: TxnId, decision: Decision) -> Result<(), AllocError>
         requires fits { IsTxnId txn }
         requires allowed { ack_allows self.old.entries (ack_marker txn decision) ≡ true }
-        ensures ok { OnOk result (self.new.entries ≡ self.old.entries ++ ack_marker txn decision ∷ []) }
+        ensures ok { OnOk result (IsMarked txn decision self.old.entries self.new.entries) }
         ensures err { OnErr result (self.new.entries ≡ self.old.entries) }
         ensures ends { self.old.ends ≤ self.new.ends + 1 }
     {
@@ -266,9 +263,9 @@ fn end_row(
     txn: TxnId,
     decision: Decision,
 ) -> u64
-    requires { (q : ℕ) → has (row_of (get same_key rows.old) txn) q ≡ true → how_taken taken.old q ≡ Some (Some txn) }
-    ensures taken { (q : ℕ) → how_taken taken.new q ≡ set_each (how_taken taken.old) (row_of (get same_key rows.old) txn) (left_by decision) q }
-    ensures rows { (x : TxnId) → row_of (get same_key rows.new) x ≡ row_ended (row_of (get same_key rows.old)) txn x }
+    requires { AllAre (row_of (get same_key rows.old) txn) (Some (Some txn)) (how_taken taken.old) }
+    ensures taken { IsRowEnded decision (row_of (get same_key rows.old) txn) taken.old taken.new }
+    ensures rows { IsEnded txn (get same_key rows.old) (get same_key rows.new) }
     ensures count { result ≡ length (row_of (get same_key rows.old) txn) }
 {
     let Some(row) = take_row(rows, txn) else {
@@ -288,7 +285,7 @@ fn end_up(
     txn: TxnId,
     decision: Decision,
 ) -> Option<(u64, TxnId)>
-    ensures taken { (q : ℕ) → how_taken taken.new q ≡ after_up (own_up txn up) decision (how_taken taken.old) q }
+    ensures taken { IsUpEnded decision (own_up txn up) taken.old taken.new }
     ensures up { result ≡ left_up txn up }
 {
     let (last, owner) = up?;

@@ -1,8 +1,7 @@
 //! The places that each transaction holds one by one.
 ghost use Rattle.std.specs.Prelude.{◌≡◌, ◌++◌, [], ℕ, length, OnOk, OnErr, Some, None, true, false, is_some, unwrap_or};
 ghost use Rattle.indexmap.specs.IndexMap.{get};
-ghost use Rattle.txn_base.specs.declared.txn.TxnId.{TxnId};
-ghost use Rattle.txn_holds.specs.Rows.{same_key, row_in, row_of, row_grown, row_ended};
+ghost use Rattle.txn_holds.specs.Rows.{IsEnded, IsGrown, IsLonger, SameOf, SameOthers, SameRows, same_key, row_of};
 
 use indexmap::IndexMap;
 use std::alloc::{AllocError, Global};
@@ -53,7 +52,7 @@ fn begin_row(
     rows: &mut IndexMap<(u64, u64), Row>,
     key: (u64, u64),
 ) -> Result<(), AllocError>
-    ensures rows { (k : ℕ × ℕ) → row_in (get same_key rows.new) k ≡ row_in (get same_key rows.old) k }
+    ensures rows { SameRows (get same_key rows.old) (get same_key rows.new) }
     ensures there { OnOk result (is_some (get same_key rows.new key) ≡ true) }
 {
     if rows.get(&key).is_some() {
@@ -72,8 +71,8 @@ fn grow_row(
     places: &[u64],
 ) -> Result<(), AllocError>
     requires { is_some (get same_key rows.old key) ≡ true }
-    ensures at { OnOk result (row_in (get same_key rows.new) key ≡ row_in (get same_key rows.old) key ++ places.now) }
-    ensures others { (k : ℕ × ℕ) → same_key key k ≡ false → get same_key rows.new k ≡ get same_key rows.old k }
+    ensures at { OnOk result (IsLonger key places.now (get same_key rows.old) (get same_key rows.new)) }
+    ensures others { SameOthers key (get same_key rows.old) (get same_key rows.new) }
     ensures err { OnErr result (get same_key rows.new key ≡ get same_key rows.old key) }
 {
     match rows.get_mut(&key) {
@@ -89,8 +88,8 @@ pub fn add_places(
     txn: TxnId,
     places: &[u64],
 ) -> Result<(), AllocError>
-    ensures ok { OnOk result ((x : TxnId) → row_of (get same_key rows.new) x ≡ row_grown (row_of (get same_key rows.old)) txn places.now x) }
-    ensures err { OnErr result ((x : TxnId) → row_of (get same_key rows.new) x ≡ row_of (get same_key rows.old) x) }
+    ensures ok { OnOk result (IsGrown txn places.now (get same_key rows.old) (get same_key rows.new)) }
+    ensures err { OnErr result (SameOf (get same_key rows.old) (get same_key rows.new)) }
 {
     let key = (txn.most, txn.least);
     if let Err(failed) = begin_row(alloc, rows, key) {
@@ -105,7 +104,7 @@ pub fn add_places(
 /// Takes out the row of a transaction.
 pub fn take_row(rows: &mut IndexMap<(u64, u64), Row>, txn: TxnId) -> Option<Row>
     ensures row { unwrap_or result [] ≡ row_of (get same_key rows.old) txn }
-    ensures rows { (x : TxnId) → row_of (get same_key rows.new) x ≡ row_ended (row_of (get same_key rows.old)) txn x }
+    ensures rows { IsEnded txn (get same_key rows.old) (get same_key rows.new) }
 {
     rows.swap_remove(&(txn.most, txn.least))
 }

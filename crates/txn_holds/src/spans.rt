@@ -1,10 +1,11 @@
 //! Spans of places that are acknowledged or held, by the first place of each.
 ghost use Rattle.std.specs.Prelude.{◌≡◌, ◌≤◌, ◌<◌, ◌^◌, ℕ, Option, Some, None, IsSome, IfSome, IfNone, OnErr, OnOk, is_some, true};
-ghost use Rattle.std.specs.Option.{option_map};
 ghost use Rattle.std.specs.Ordering.{nat_cmp};
 ghost use Rattle.std.specs.BTreeMap.{get};
-ghost use Rattle.txn_model.specs.Words.{has, set_at};
-ghost use Rattle.txn_holds.specs.Spans.{AreSpans, IsFirst, IsPast, IsReach, Rises, in_front, place_past, put_each, set_each, single, with_last, acked_span, span_taken, taken_in, up_to};
+ghost use Rattle.txn_model.specs.Words.{has};
+ghost use Rattle.txn_holds.specs.Spans.{single, with_last, acked_span, span_taken, in_front, place_past, put_each};
+ghost use Rattle.txn_holds.specs.Spans.{AreSpans, AreTaken, AcksAll, AcksOne, AcksUpTo, AreSet, Begins, GoesOn};
+ghost use Rattle.txn_holds.specs.Spans.{IsChanged, IsFirst, IsLast, IsPast, IsReach, Rises, Same, SameBut, SamePast, TakesSame};
 
 use std::alloc::AllocError;
 use std::collections::BTreeMap;
@@ -19,8 +20,8 @@ pub struct Span {
 
 /// The last span that begins at or before a place.
 pub fn span_before(spans: &BTreeMap<u64, Span>, place: u64) -> Option<(u64, Span)>
-    ensures some { IfSome result (λ p. (p.0 ≤ place) × (get nat_cmp spans.now p.0 ≡ Some p.1)) }
-    ensures last { IfSome result (λ p. (q : ℕ) → q ≤ place → IsSome (get nat_cmp spans.now q) → q ≤ p.0) }
+    ensures some { IfSome result (λ p. (p.0 ≤ place) × Begins (get nat_cmp spans.now) p) }
+    ensures last { IfSome result (λ p. IsLast (get nat_cmp spans.now) place p.0) }
     ensures none { IfNone result ((q : ℕ) → q ≤ place → get nat_cmp spans.now q ≡ None) }
 {
     match spans.range(..=place).next_back() {
@@ -47,8 +48,8 @@ pub fn taken_at(spans: &BTreeMap<u64, Span>, place: u64) -> Option<Option<TxnId>
 
 /// Lets the span that begins at a place end at this one.
 fn extend(spans: &mut BTreeMap<u64, Span>, first: u64, last: u64)
-    ensures at { get nat_cmp spans.new first ≡ option_map (with_last last) (get nat_cmp spans.old first) }
-    ensures others { (q : ℕ) → (q ≡ first → ⊥) → get nat_cmp spans.new q ≡ get nat_cmp spans.old q }
+    ensures at { IsChanged (with_last last) first (get nat_cmp spans.old) (get nat_cmp spans.new) }
+    ensures others { SameBut first (get nat_cmp spans.old) (get nat_cmp spans.new) }
 {
     if let Some(span) = spans.get_mut(&first) {
         span.last = last;
@@ -58,15 +59,15 @@ fn extend(spans: &mut BTreeMap<u64, Span>, first: u64, last: u64)
 /// Takes out the span that begins at a place.
 fn take_out(spans: &mut BTreeMap<u64, Span>, first: u64)
     ensures at { get nat_cmp spans.new first ≡ None }
-    ensures others { (q : ℕ) → (q ≡ first → ⊥) → get nat_cmp spans.new q ≡ get nat_cmp spans.old q }
+    ensures others { SameBut first (get nat_cmp spans.old) (get nat_cmp spans.new) }
 {
     let _ = spans.remove(&first);
 }
 
 /// Lets the span that begins at a place be acknowledged.
 fn ack_span(spans: &mut BTreeMap<u64, Span>, first: u64)
-    ensures at { get nat_cmp spans.new first ≡ option_map acked_span (get nat_cmp spans.old first) }
-    ensures others { (q : ℕ) → (q ≡ first → ⊥) → get nat_cmp spans.new q ≡ get nat_cmp spans.old q }
+    ensures at { IsChanged acked_span first (get nat_cmp spans.old) (get nat_cmp spans.new) }
+    ensures others { SameBut first (get nat_cmp spans.old) (get nat_cmp spans.new) }
 {
     if let Some(span) = spans.get_mut(&first) {
         span.owner = None;
@@ -76,8 +77,8 @@ fn ack_span(spans: &mut BTreeMap<u64, Span>, first: u64)
 /// Puts a span of one place. An `Err` changes nothing.
 fn put(spans: &mut BTreeMap<u64, Span>, place: u64, owner: Option<TxnId>) -> Result<(), AllocError>
     ensures at { OnOk result (get nat_cmp spans.new place ≡ Some (single owner place)) }
-    ensures others { (q : ℕ) → (q ≡ place → ⊥) → get nat_cmp spans.new q ≡ get nat_cmp spans.old q }
-    ensures err { OnErr result ((q : ℕ) → get nat_cmp spans.new q ≡ get nat_cmp spans.old q) }
+    ensures others { SameBut place (get nat_cmp spans.old) (get nat_cmp spans.new) }
+    ensures err { OnErr result (Same (get nat_cmp spans.old) (get nat_cmp spans.new)) }
 {
     match spans.insert(place, Span { last: place, owner }) {
         Ok(_) => Ok(()),
@@ -93,8 +94,8 @@ pub fn put_all(
 ) -> Result<(), AllocError>
     requires order { Rises places.now }
     requires absent { (q : ℕ) → has places.now q ≡ true → get nat_cmp spans.old q ≡ None }
-    ensures ok { OnOk result ((q : ℕ) → get nat_cmp spans.new q ≡ put_each owner places.now (get nat_cmp spans.old) q) }
-    ensures err { OnErr result ((q : ℕ) → get nat_cmp spans.new q ≡ get nat_cmp spans.old q) }
+    ensures ok { OnOk result (Same (put_each owner places.now (get nat_cmp spans.old)) (get nat_cmp spans.new)) }
+    ensures err { OnErr result (Same (get nat_cmp spans.old) (get nat_cmp spans.new)) }
 {
     let Some((place, rest)) = places.split_first() else {
         return Ok(());
@@ -109,7 +110,7 @@ pub fn put_all(
 
 /// Takes out the spans that begin at these places.
 pub fn take_all(spans: &mut BTreeMap<u64, Span>, places: &[u64])
-    ensures { (q : ℕ) → get nat_cmp spans.new q ≡ set_each (get nat_cmp spans.old) places.now None q }
+    ensures { AreSet places.now None (get nat_cmp spans.old) (get nat_cmp spans.new) }
 {
     if let Some((place, rest)) = places.split_first() {
         take_out(spans, *place);
@@ -121,7 +122,7 @@ pub fn take_all(spans: &mut BTreeMap<u64, Span>, places: &[u64])
 fn join(spans: &mut BTreeMap<u64, Span>, first: u64)
     requires { AreSpans (get nat_cmp spans.old) }
     ensures spans { AreSpans (get nat_cmp spans.new) }
-    ensures taken { (q : ℕ) → span_taken (get nat_cmp spans.new) q ≡ span_taken (get nat_cmp spans.old) q }
+    ensures taken { TakesSame (get nat_cmp spans.old) (get nat_cmp spans.new) }
 {
     let Some(span) = spans.get(&first).copied() else {
         return;
@@ -144,7 +145,7 @@ fn ack_one(spans: &mut BTreeMap<u64, Span>, place: u64)
     requires spans { AreSpans (get nat_cmp spans.old) }
     requires there { is_some (span_taken (get nat_cmp spans.old) place) ≡ true }
     ensures spans { AreSpans (get nat_cmp spans.new) }
-    ensures taken { (q : ℕ) → span_taken (get nat_cmp spans.new) q ≡ set_at (span_taken (get nat_cmp spans.old)) place (Some None) q }
+    ensures taken { AcksOne place (get nat_cmp spans.old) (get nat_cmp spans.new) }
 {
     ack_span(spans, place);
     join(spans, place);
@@ -158,9 +159,9 @@ fn ack_one(spans: &mut BTreeMap<u64, Span>, place: u64)
 /// Acknowledges places that are taken, each joined with those beside it.
 pub fn ack_all(spans: &mut BTreeMap<u64, Span>, places: &[u64])
     requires spans { AreSpans (get nat_cmp spans.old) }
-    requires there { (q : ℕ) → has places.now q ≡ true → is_some (span_taken (get nat_cmp spans.old) q) ≡ true }
+    requires there { AreTaken places.now (get nat_cmp spans.old) }
     ensures spans { AreSpans (get nat_cmp spans.new) }
-    ensures taken { (q : ℕ) → span_taken (get nat_cmp spans.new) q ≡ set_each (span_taken (get nat_cmp spans.old)) places.now (Some None) q }
+    ensures taken { AcksAll places.now (get nat_cmp spans.old) (get nat_cmp spans.new) }
 {
     if let Some((place, rest)) = places.split_first() {
         ack_one(spans, *place);
@@ -171,7 +172,7 @@ pub fn ack_all(spans: &mut BTreeMap<u64, Span>, places: &[u64])
 /// Takes out the spans that begin at or before a place.
 fn drop_to(spans: &mut BTreeMap<u64, Span>, place: u64)
     ensures gone { (q : ℕ) → q ≤ place → get nat_cmp spans.new q ≡ None }
-    ensures others { (q : ℕ) → place < q → get nat_cmp spans.new q ≡ get nat_cmp spans.old q }
+    ensures others { SamePast place (get nat_cmp spans.old) (get nat_cmp spans.new) }
 {
     while let Some((first, _)) = spans.first_key_value() {
         if *first > place {
@@ -197,7 +198,7 @@ pub fn ack_up_to(spans: &mut BTreeMap<u64, Span>, place: u64) -> u64
     requires { AreSpans (get nat_cmp spans.old) }
     ensures spans { AreSpans (get nat_cmp spans.new) }
     ensures past { IsPast (Some result) (get nat_cmp spans.new) }
-    ensures taken { (q : ℕ) → taken_in (Some result) (get nat_cmp spans.new) q ≡ up_to (span_taken (get nat_cmp spans.old)) place q }
+    ensures taken { AcksUpTo place result (get nat_cmp spans.old) (get nat_cmp spans.new) }
 {
     let last = reach(spans, place);
     drop_to(spans, place);
@@ -232,7 +233,7 @@ pub fn go_on(front: &mut Option<u64>, spans: &mut BTreeMap<u64, Span>)
     ensures spans { AreSpans (get nat_cmp spans.new) }
     ensures past { IsPast front.new (get nat_cmp spans.new) }
     ensures first { IsFirst front.new (get nat_cmp spans.new) }
-    ensures taken { (q : ℕ) → taken_in front.new (get nat_cmp spans.new) q ≡ taken_in front.old (get nat_cmp spans.old) q }
+    ensures taken { GoesOn front.old front.new (get nat_cmp spans.old) (get nat_cmp spans.new) }
 {
     while let Some(next) = next_place(*front) {
         let Some(span) = spans.get(&next).copied() else {

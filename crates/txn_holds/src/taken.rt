@@ -1,7 +1,6 @@
 //! Which places are taken: all up to a front are acknowledged, and spans have those past it.
 ghost use Rattle.std.specs.Prelude.{◌≡◌, ◌<◌, ◌^◌, ℕ, Option, Some, None, IfSome, IfNone, OnErr, OnOk, true};
-ghost use Rattle.txn_model.specs.Words.{has};
-ghost use Rattle.txn_holds.specs.Spans.{Rises, set_each};
+ghost use Rattle.txn_holds.specs.Spans.{AllAcked, AllAre, AreSet, Rises, Same};
 ghost use Rattle.txn_holds.specs.Taken.{how_taken, up_to, IsUnacked};
 
 use crate::spans::{
@@ -56,7 +55,7 @@ impl Taken {
     /// The first place that isn't acknowledged, if there is one.
     pub fn first(&self) -> Option<u64>
         ensures some { IfSome result (IsUnacked self.now) }
-        ensures none { IfNone result ((q : ℕ) → q < 2 ^ 64 → how_taken self.now q ≡ Some None) }
+        ensures none { IfNone result (AllAcked (how_taken self.now)) }
     {
         let _ = &self.spans;
         next_place(self.front)
@@ -65,9 +64,9 @@ impl Taken {
     /// A transaction holds places that aren't taken. An `Err` changes nothing.
     pub fn hold(&mut self, places: &[u64], txn: TxnId) -> Result<(), AllocError>
         requires order { Rises places.now }
-        requires free { (q : ℕ) → has places.now q ≡ true → how_taken self.old q ≡ None }
-        ensures ok { OnOk result ((q : ℕ) → how_taken self.new q ≡ set_each (how_taken self.old) places.now (Some (Some txn)) q) }
-        ensures err { OnErr result ((q : ℕ) → how_taken self.new q ≡ how_taken self.old q) }
+        requires free { AllAre places.now None (how_taken self.old) }
+        ensures ok { OnOk result (AreSet places.now (Some (Some txn)) (how_taken self.old) (how_taken self.new)) }
+        ensures err { OnErr result (Same (how_taken self.old) (how_taken self.new)) }
     {
         if let Err(failed) = put_all(&mut self.spans, places, Some(txn)) {
             return Err(failed);
@@ -78,9 +77,9 @@ impl Taken {
     /// Acknowledges places that aren't taken. An `Err` changes nothing.
     pub fn acknowledge(&mut self, places: &[u64]) -> Result<(), AllocError>
         requires order { Rises places.now }
-        requires free { (q : ℕ) → has places.now q ≡ true → how_taken self.old q ≡ None }
-        ensures ok { OnOk result ((q : ℕ) → how_taken self.new q ≡ set_each (how_taken self.old) places.now (Some None) q) }
-        ensures err { OnErr result ((q : ℕ) → how_taken self.new q ≡ how_taken self.old q) }
+        requires free { AllAre places.now None (how_taken self.old) }
+        ensures ok { OnOk result (AreSet places.now (Some None) (how_taken self.old) (how_taken self.new)) }
+        ensures err { OnErr result (Same (how_taken self.old) (how_taken self.new)) }
     {
         if let Err(failed) = put_all(&mut self.spans, places, None) {
             return Err(failed);
@@ -92,8 +91,8 @@ impl Taken {
 
     /// Acknowledges places that a transaction holds.
     pub fn commit(&mut self, places: &[u64], txn: TxnId)
-        requires { (q : ℕ) → has places.now q ≡ true → how_taken self.old q ≡ Some (Some txn) }
-        ensures { (q : ℕ) → how_taken self.new q ≡ set_each (how_taken self.old) places.now (Some None) q }
+        requires { AllAre places.now (Some (Some txn)) (how_taken self.old) }
+        ensures { AreSet places.now (Some None) (how_taken self.old) (how_taken self.new) }
     {
         let _ = txn;
         ack_all(&mut self.spans, places);
@@ -102,8 +101,8 @@ impl Taken {
 
     /// Lets go places that a transaction holds.
     pub fn abort(&mut self, places: &[u64], txn: TxnId)
-        requires { (q : ℕ) → has places.now q ≡ true → how_taken self.old q ≡ Some (Some txn) }
-        ensures { (q : ℕ) → how_taken self.new q ≡ set_each (how_taken self.old) places.now None q }
+        requires { AllAre places.now (Some (Some txn)) (how_taken self.old) }
+        ensures { AreSet places.now None (how_taken self.old) (how_taken self.new) }
     {
         let _ = txn;
         take_all(&mut self.spans, places);
