@@ -12,3 +12,5 @@ pub mod Kept
 pub mod Keys
 pub mod Added
 pub mod Steps
+pub mod OneHold
+pub mod Laws
