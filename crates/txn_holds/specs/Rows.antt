@@ -35,11 +35,11 @@ abbrev pub SameOthers : ℕ × ℕ → (ℕ × ℕ → Option (List ℕ)) → (�
 SameOthers key f n = (k : ℕ × ℕ) → same_key key k ≡ false → n k ≡ f k
 
 -- The row of a key has places more; the row of x alone has; the row of x alone is empty.
-abbrev pub IsLonger : ℕ × ℕ → List ℕ → (ℕ × ℕ → Option (List ℕ)) → (ℕ × ℕ → Option (List ℕ)) → Type 0
-IsLonger key places f n = row_in n key ≡ row_in f key ++ places
+abbrev pub Longer : ℕ × ℕ → List ℕ → (ℕ × ℕ → Option (List ℕ)) → (ℕ × ℕ → Option (List ℕ)) → Type 0
+Longer key places f n = row_in n key ≡ row_in f key ++ places
 
-abbrev pub IsGrown : TxnId → List ℕ → (ℕ × ℕ → Option (List ℕ)) → (ℕ × ℕ → Option (List ℕ)) → Type 0
-IsGrown x places f n = (y : TxnId) → row_of n y ≡ row_grown (row_of f) x places y
+abbrev pub AddsTo : TxnId → List ℕ → (ℕ × ℕ → Option (List ℕ)) → (ℕ × ℕ → Option (List ℕ)) → Type 0
+AddsTo x places f n = (y : TxnId) → row_of n y ≡ row_grown (row_of f) x places y
 
 abbrev pub IsEnded : TxnId → (ℕ × ℕ → Option (List ℕ)) → (ℕ × ℕ → Option (List ℕ)) → Type 0
 IsEnded x f n = (y : TxnId) → row_of n y ≡ row_ended (row_of f) x y

@@ -5,7 +5,7 @@ use Rattle.std.specs.BTreeMap.{is_at}
 use Rattle.std.specs.Ordering.{nat_cmp}
 use Rattle.txn_base.specs.declared.txn.TxnId.{TxnId}
 use Rattle.txn_holds.specs.declared.spans.Span.{Span}
-use Rattle.txn_holds.specs.Spans.{taken_in, AreSpans, IsPast, IsFirst}
+use Rattle.txn_holds.specs.Spans.{taken_in, set_each, AreSpans, IsPast, IsFirst}
 pub use Rattle.txn_holds.specs.Spans.{up_to}
 
 -- The front, and the spans past it by the first place of each.
@@ -16,6 +16,10 @@ pub record TakenView : Type 0 where
 -- How a place is taken: Some None where it is acknowledged, Some (Some x) where x holds it, None where it is free.
 abbrev pub how_taken : TakenView → ℕ → Option (Option TxnId)
 how_taken v q = taken_in v.front (λ p. lookup (is_at (nat_cmp p)) v.spans) q
+
+-- These places are taken so now, and the others as before.
+abbrev pub AreNow : List ℕ → Option (Option TxnId) → TakenView → TakenView → Type 0
+AreNow places m v w = (q : ℕ) → how_taken w q ≡ set_each (how_taken v) places m q
 
 -- The place isn't acknowledged, and all before it are.
 pub record IsUnacked (v : TakenView) (place : ℕ) : Type 0 where

@@ -21,7 +21,8 @@ use std::alloc::{AllocError, Global};
 use std::marker::Model;
 use txn_base::{AckEntry, ContentCarrier, Decision, FileId, TxnId};
 
-/// The acknowledged and the held places of a subscription's entries. The entries themselves are kept for clauses alone.
+/// The acknowledged and the held places of a subscription's entries. The entries themselves are
+/// kept for clauses alone.
 #[derive(Drop)]
 pub struct Holds {
     alloc: Global,

@@ -1,7 +1,7 @@
 //! The places that each transaction holds one by one.
 ghost use Rattle.std.specs.Prelude.{◌≡◌, ◌++◌, [], ℕ, length, OnOk, OnErr, Some, None, true, false, is_some, unwrap_or};
 ghost use Rattle.indexmap.specs.IndexMap.{get};
-ghost use Rattle.txn_holds.specs.Rows.{IsEnded, IsGrown, IsLonger, SameOf, SameOthers, SameRows, same_key, row_of};
+ghost use Rattle.txn_holds.specs.Rows.{AddsTo, IsEnded, Longer, SameOf, SameOthers, SameRows, same_key, row_of};
 
 use indexmap::IndexMap;
 use std::alloc::{AllocError, Global};
@@ -68,15 +68,15 @@ fn begin_row(
 fn grow_row(
     rows: &mut IndexMap<(u64, u64), Row>,
     key: (u64, u64),
-    places: &[u64],
+    more: &[u64],
 ) -> Result<(), AllocError>
     requires { is_some (get same_key rows.old key) ≡ true }
-    ensures at { OnOk result (IsLonger key places.now (get same_key rows.old) (get same_key rows.new)) }
+    ensures at { OnOk result (Longer key more.now (get same_key rows.old) (get same_key rows.new)) }
     ensures others { SameOthers key (get same_key rows.old) (get same_key rows.new) }
     ensures err { OnErr result (get same_key rows.new key ≡ get same_key rows.old key) }
 {
     match rows.get_mut(&key) {
-        Some(row) => row.add(places),
+        Some(row) => row.add(more),
         None => Ok(()),
     }
 }
@@ -86,16 +86,16 @@ pub fn add_places(
     alloc: Global,
     rows: &mut IndexMap<(u64, u64), Row>,
     txn: TxnId,
-    places: &[u64],
+    more: &[u64],
 ) -> Result<(), AllocError>
-    ensures ok { OnOk result (IsGrown txn places.now (get same_key rows.old) (get same_key rows.new)) }
+    ensures ok { OnOk result (AddsTo txn more.now (get same_key rows.old) (get same_key rows.new)) }
     ensures err { OnErr result (SameOf (get same_key rows.old) (get same_key rows.new)) }
 {
     let key = (txn.most, txn.least);
     if let Err(failed) = begin_row(alloc, rows, key) {
         return Err(failed);
     }
-    if let Err(failed) = grow_row(rows, key, places) {
+    if let Err(failed) = grow_row(rows, key, more) {
         return Err(failed);
     }
     Ok(())

@@ -3,9 +3,9 @@ ghost use Rattle.std.specs.Prelude.{◌≡◌, ◌≤◌, ◌<◌, ◌^◌, ℕ,
 ghost use Rattle.std.specs.Ordering.{nat_cmp};
 ghost use Rattle.std.specs.BTreeMap.{get};
 ghost use Rattle.txn_model.specs.Words.{has};
-ghost use Rattle.txn_holds.specs.Spans.{single, with_last, acked_span, span_taken, in_front, place_past, put_each};
+ghost use Rattle.txn_holds.specs.Spans.{single, with_last, acked_span, span_taken, in_front, place_past};
 ghost use Rattle.txn_holds.specs.Spans.{AreSpans, AreTaken, AcksAll, AcksOne, AcksUpTo, AreSet, Begins, GoesOn};
-ghost use Rattle.txn_holds.specs.Spans.{IsChanged, IsFirst, IsLast, IsPast, IsReach, Rises, Same, SameBut, SamePast, TakesSame};
+ghost use Rattle.txn_holds.specs.Spans.{IsChanged, IsFirst, IsLast, IsPast, IsPut, IsReach, Rises, Same, SameBut, SamePast, TakesSame};
 
 use std::alloc::AllocError;
 use std::collections::BTreeMap;
@@ -94,7 +94,7 @@ pub fn put_all(
 ) -> Result<(), AllocError>
     requires order { Rises places.now }
     requires absent { (q : ℕ) → has places.now q ≡ true → get nat_cmp spans.old q ≡ None }
-    ensures ok { OnOk result (Same (put_each owner places.now (get nat_cmp spans.old)) (get nat_cmp spans.new)) }
+    ensures ok { OnOk result (IsPut owner places.now (get nat_cmp spans.old) (get nat_cmp spans.new)) }
     ensures err { OnErr result (Same (get nat_cmp spans.old) (get nat_cmp spans.new)) }
 {
     let Some((place, rest)) = places.split_first() else {

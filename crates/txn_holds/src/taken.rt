@@ -1,7 +1,7 @@
 //! Which places are taken: all up to a front are acknowledged, and spans have those past it.
 ghost use Rattle.std.specs.Prelude.{◌≡◌, ◌<◌, ◌^◌, ℕ, Option, Some, None, IfSome, IfNone, OnErr, OnOk, true};
-ghost use Rattle.txn_holds.specs.Spans.{AllAcked, AllAre, AreSet, Rises, Same};
-ghost use Rattle.txn_holds.specs.Taken.{how_taken, up_to, IsUnacked};
+ghost use Rattle.txn_holds.specs.Spans.{AllAcked, AllAre, Rises, Same};
+ghost use Rattle.txn_holds.specs.Taken.{how_taken, up_to, AreNow, IsUnacked};
 
 use crate::spans::{
     Span, ack_all, ack_up_to, go_on, is_in_front, next_place, put_all, take_all, taken_at,
@@ -65,7 +65,7 @@ impl Taken {
     pub fn hold(&mut self, places: &[u64], txn: TxnId) -> Result<(), AllocError>
         requires order { Rises places.now }
         requires free { AllAre places.now None (how_taken self.old) }
-        ensures ok { OnOk result (AreSet places.now (Some (Some txn)) (how_taken self.old) (how_taken self.new)) }
+        ensures ok { OnOk result (AreNow places.now (Some (Some txn)) self.old self.new) }
         ensures err { OnErr result (Same (how_taken self.old) (how_taken self.new)) }
     {
         if let Err(failed) = put_all(&mut self.spans, places, Some(txn)) {
@@ -78,7 +78,7 @@ impl Taken {
     pub fn acknowledge(&mut self, places: &[u64]) -> Result<(), AllocError>
         requires order { Rises places.now }
         requires free { AllAre places.now None (how_taken self.old) }
-        ensures ok { OnOk result (AreSet places.now (Some None) (how_taken self.old) (how_taken self.new)) }
+        ensures ok { OnOk result (AreNow places.now (Some None) self.old self.new) }
         ensures err { OnErr result (Same (how_taken self.old) (how_taken self.new)) }
     {
         if let Err(failed) = put_all(&mut self.spans, places, None) {
@@ -92,7 +92,7 @@ impl Taken {
     /// Acknowledges places that a transaction holds.
     pub fn commit(&mut self, places: &[u64], txn: TxnId)
         requires { AllAre places.now (Some (Some txn)) (how_taken self.old) }
-        ensures { AreSet places.now (Some None) (how_taken self.old) (how_taken self.new) }
+        ensures { AreNow places.now (Some None) self.old self.new }
     {
         let _ = txn;
         ack_all(&mut self.spans, places);
@@ -102,7 +102,7 @@ impl Taken {
     /// Lets go places that a transaction holds.
     pub fn abort(&mut self, places: &[u64], txn: TxnId)
         requires { AllAre places.now (Some (Some txn)) (how_taken self.old) }
-        ensures { AreSet places.now None (how_taken self.old) (how_taken self.new) }
+        ensures { AreNow places.now None self.old self.new }
     {
         let _ = txn;
         take_all(&mut self.spans, places);
