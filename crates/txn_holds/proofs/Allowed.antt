@@ -2,24 +2,20 @@
 use Rattle.std.proofs.Common.{◌≡◌, ◌<◌, ◌≤◌, ◌⊎◌, inl, inr, ⊎_elim, ℕ, zero, suc, ◌+◌, ◌==◌, eqb-true, Bool, true, false, ◌&&◌, ◌||◌, if◌then◌else◌, List, [], ◌∷◌, ◌++◌, Some, None, refl, sym, ap, ◌∙◌, subst, true≢false, arith}
 use Rattle.std.proofs.Common.{append_assoc, append-nil}
 use Rattle.std.specs.Prelude.{Option, is_none, nat_le, not}
-use Rattle.std.specs.Option.{option_or}
 use Rattle.std.specs.List.{list_any, list_all}
 use Rattle.std.proofs.lemmas.Bool.{cases_eq, cases_lt}
 use Rattle.txn_base.specs.declared.txn.TxnId.{TxnId}
-use Rattle.txn_base.specs.declared.txn.Decision.{Decision}
 use Rattle.txn_base.specs.declared.txn.Decision.TheVariants.{Commit, Abort}
 use Rattle.txn_base.specs.declared.entry.AckEntry.{AckEntry}
 use Rattle.txn_base.specs.declared.entry.AckEntry.TheVariants as ack
 use Rattle.txn_model.specs.Words.{has, below, numbers_from, all_follow}
-use Rattle.txn_model.specs.Skeletons.{same_txn, ack_skeleton, ack_skeletons}
-use Rattle.txn_model.specs.Topic.{part_allows}
-use Rattle.txn_model.specs.Ack.{covers, is_commit, counts, is_acked, pending, holder_of, is_free, is_held_by, is_foreign, places_allow, ack_allows, AckLawful}
+use Rattle.txn_model.specs.Skeletons.{same_txn}
+use Rattle.txn_model.specs.Ack.{is_commit, is_acked, holder_of, is_free, is_held_by, is_foreign, places_allow, ack_allows, AckLawful}
 use Rattle.txn_model.proofs.Laws.Lists.{all_follow-append}
 use Rattle.txn_model.proofs.Laws.Tests.{and_l, and_r}
-use Rattle.txn_holds.specs.Holds.{without}
-use Rattle.txn_holds.proofs.Covering.{le_true, true_le}
+use Rattle.txn_holds.proofs.Covering.{true_le}
 use Rattle.txn_holds.proofs.Entries.{mark, Ends, same_equal, same_self}
-use Rattle.txn_holds.proofs.Snoc.{Adds, One, adds_acked, adds_holder, adds_one, ends_acked, ends_holder, ends_one}
+use Rattle.txn_holds.proofs.Snoc.{Adds, One, adds_one, ends_one}
 
 pub none_of : {V : Type 0} (o : Option V) → is_none o ≡ true → o ≡ None
 none_of None h = refl

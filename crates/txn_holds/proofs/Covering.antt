@@ -1,11 +1,10 @@
 -- How spans take a place, by the span that has it.
-use Rattle.std.proofs.Common.{◌≡◌, ◌<◌, ◌≤◌, ◌+◌, ◌⊎◌, inl, inr, ⊎_elim, ℕ, zero, suc, Bool, true, false, List, [], ◌∷◌, Some, None, arith, refl, sym, ap, ◌∙◌}
+use Rattle.std.proofs.Common.{◌≡◌, ◌<◌, ◌≤◌, ◌+◌, ⊎_elim, ℕ, zero, suc, Bool, true, false, Some, None, arith, refl, sym, ap, ◌∙◌}
 use Rattle.std.specs.Prelude.{Option, nat_le}
 use Rattle.std.specs.Option.{option_or}
-use Rattle.std.proofs.lemmas.Bool.{cases_eq, cases_order, cases_lt}
-use Rattle.std.proofs.lemmas.Bool.Decides.{leb_tells}
+use Rattle.std.proofs.lemmas.Bool.{cases_eq, cases_lt}
 use Rattle.txn_base.specs.declared.txn.TxnId.{TxnId}
-use Rattle.txn_model.specs.Words.{first_of, when, numbers_from, below}
+use Rattle.txn_model.specs.Words.{first_of, when, numbers_from}
 use Rattle.txn_holds.specs.declared.spans.Span.{Span}
 use Rattle.txn_holds.specs.Spans.{taken_by, span_taken, AreSpans}
 

@@ -1,21 +1,17 @@
 -- What one entry more means for the entries before it.
-use Rattle.std.proofs.Common.{◌≡◌, ◌⊎◌, inl, inr, ℕ, ◌+◌, ◌==◌, eqb-true, eq-eqb, Bool, true, false, ◌&&◌, ◌||◌, if◌then◌else◌, List, [], ◌∷◌, ◌++◌, length, map, Some, None, refl, sym, ap, ◌∙◌, subst, true≢false, arith}
-use Rattle.std.specs.Prelude.{Option, is_none, nat_le, sum_by, not}
+use Rattle.std.proofs.Common.{◌≡◌, ℕ, ◌+◌, ◌==◌, eqb-true, eq-eqb, Bool, true, false, ◌&&◌, ◌||◌, if◌then◌else◌, List, [], ◌∷◌, ◌++◌, length, Some, None, refl, sym, ap, ◌∙◌, true≢false, arith}
+use Rattle.std.specs.Prelude.{Option, is_none}
 use Rattle.std.specs.Option.{option_or}
-use Rattle.std.specs.List.{list_any, flat_map}
-use Rattle.std.proofs.lemmas.List.Folds.{list_any-append}
 use Rattle.txn_base.specs.declared.txn.TxnId.{TxnId}
 use Rattle.txn_base.specs.declared.txn.Decision.{Decision}
-use Rattle.txn_base.specs.declared.txn.Decision.TheVariants.{Commit, Abort}
 use Rattle.txn_base.specs.declared.core_entry.CoreEntry.TheVariants as core
 use Rattle.txn_base.specs.declared.entry.AckEntry.{AckEntry}
 use Rattle.txn_base.specs.declared.entry.AckEntry.TheVariants as ack
-use Rattle.txn_model.specs.Words.{first_of, has}
 use Rattle.txn_model.specs.Skeletons.{same_txn, ack_skeleton, ack_skeletons}
 use Rattle.txn_model.specs.Topic.{marks, marker_of}
-use Rattle.txn_model.specs.Ack.{covers, is_commit, counts, is_acked, pending, holder_of, held_by, held_count, is_held_by}
+use Rattle.txn_model.specs.Ack.{covers, is_commit, counts, pending, held_by, is_held_by}
 use Rattle.txn_model.proofs.Laws.Lists.{first_of-append, map_append}
-use Rattle.txn_holds.specs.Holds.{listed, held_places, without}
+use Rattle.txn_holds.specs.Holds.{listed, without}
 
 -- ---- Transactions.
 

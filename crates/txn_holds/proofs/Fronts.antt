@@ -1,8 +1,7 @@
 -- A front that goes on: all up to a place are acknowledged, or a span right behind it is taken in.
-use Rattle.std.proofs.Common.{◌≡◌, ◌<◌, ◌≤◌, ◌+◌, ◌==◌, ◌⊎◌, inl, inr, ⊎_elim, ℕ, suc, Some, None, List, Bool, true, false, if◌then◌else◌, arith, true≢false, refl, sym, ap, ◌∙◌}
-use Rattle.std.specs.Prelude.{Option, nat_le, is_some}
-use Rattle.std.proofs.lemmas.Bool.{cases_eq, cases_order, cases_lt}
-use Rattle.txn_base.specs.declared.txn.TxnId.{TxnId}
+use Rattle.std.proofs.Common.{◌≡◌, ◌<◌, ◌≤◌, ⊎_elim, ℕ, Some, None, true, false, if◌then◌else◌, arith, true≢false, refl, sym, ap, ◌∙◌}
+use Rattle.std.specs.Prelude.{Option, is_some}
+use Rattle.std.proofs.lemmas.Bool.{cases_eq, cases_lt}
 use Rattle.txn_holds.specs.declared.spans.Span.{Span}
 use Rattle.txn_holds.specs.Spans.{span_taken, in_front, taken_in, up_to, place_past, AreSpans, IsPast, IsReach}
 use Rattle.txn_holds.proofs.Covering.{some_one, none_some, Owner, Covers, covers_taken, taken_covers, taken_none, same_taken, le_true, le_false, true_le}

@@ -3,11 +3,10 @@ use Rattle.std.proofs.Common.{◌≡◌, ◌<◌, ◌≤◌, ◌+◌, ◌==◌, 
 use Rattle.std.specs.Prelude.{Option, is_some}
 use Rattle.std.specs.Option.{option_map}
 use Rattle.std.proofs.lemmas.Bool.{cases_eq, cases_order, cases_lt}
-use Rattle.txn_base.specs.declared.txn.TxnId.{TxnId}
 use Rattle.txn_model.specs.Words.{set_at}
 use Rattle.txn_holds.specs.declared.spans.Span.{Span}
 use Rattle.txn_holds.specs.Spans.{with_last, acked_span, span_taken, AreSpans}
-use Rattle.txn_holds.proofs.Covering.{some_one, none_some, Owner, Covers, covers_taken, taken_covers, taken_none, same_taken}
+use Rattle.txn_holds.proofs.Covering.{some_one, none_some, Owner, Covers, covers_taken, taken_covers, same_taken}
 
 module _ (f n : ℕ → Option Span) (first next : ℕ) (span after : Span) (are : AreSpans f)
     (at_first : f first ≡ Some span) (at_next : f next ≡ Some after) (follows : next ≡ span.last + 1) (free : span.owner ≡ None) (free_next : after.owner ≡ None)

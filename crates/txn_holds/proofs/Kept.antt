@@ -1,26 +1,23 @@
 -- What is kept of the entries, after one more.
-use Rattle.std.proofs.Common.{◌≡◌, ◌<◌, ◌≤◌, ◌⊎◌, inl, inr, ⊎_elim, ℕ, ◌+◌, ◌-◌, ◌==◌, Bool, true, false, ◌&&◌, ◌||◌, if◌then◌else◌, List, [], ◌∷◌, ◌++◌, length, Some, None, refl, sym, ap, ◌∙◌, subst, true≢false, arith}
-use Rattle.std.specs.Prelude.{Option, is_none, nat_le, max, All}
+use Rattle.std.proofs.Common.{◌≡◌, ◌<◌, ◌≤◌, ◌⊎◌, ⊎_elim, ℕ, ◌+◌, Bool, true, false, ◌&&◌, ◌||◌, if◌then◌else◌, List, [], ◌∷◌, ◌++◌, length, Some, None, refl, sym, ap, ◌∙◌, subst, true≢false, arith}
+use Rattle.std.specs.Prelude.{Option, is_none, nat_le, All}
 use Rattle.std.specs.Option.{option_or}
 use Rattle.std.proofs.lemmas.Bool.{cases_lt}
 use Rattle.std.proofs.lemmas.List.Elements.{All-append, All-cons, All-nil}
 use Rattle.txn_base.specs.declared.txn.TxnId.{TxnId}
 use Rattle.txn_base.specs.declared.txn.Decision.{Decision}
-use Rattle.txn_base.specs.declared.txn.Decision.TheVariants.{Commit, Abort}
 use Rattle.txn_base.specs.Records.{IsAckEntry}
 use Rattle.txn_base.specs.declared.entry.AckEntry.{AckEntry}
 use Rattle.txn_base.specs.declared.entry.AckEntry.TheVariants as ack
 use Rattle.txn_model.specs.Words.{has}
-use Rattle.txn_model.specs.Skeletons.{same_txn, ack_skeletons}
-use Rattle.txn_model.specs.Topic.{marker_of}
-use Rattle.txn_model.specs.Ack.{is_commit, is_acked, holder_of, held_by, held_count, is_held_by, ack_allows, AckLawful}
-use Rattle.txn_holds.specs.Spans.{set_each, up_to}
+use Rattle.txn_model.specs.Skeletons.{same_txn}
+use Rattle.txn_model.specs.Ack.{is_commit, is_acked, holder_of, held_by, is_held_by, ack_allows}
+use Rattle.txn_holds.specs.Spans.{set_each}
 use Rattle.txn_holds.specs.Holds.{listed, held_places, without, is_ack, is_single, holder_up_to, holder_at, IsLive, IsHolds}
 use Rattle.txn_holds.proofs.Covering.{le_true, le_false, true_le}
-use Rattle.txn_holds.proofs.Puts.{tested}
-use Rattle.txn_holds.proofs.Entries.{mark, Quiet, Ends, same_equal, same_self, quiet_marks, ends_marks}
+use Rattle.txn_holds.proofs.Entries.{mark, Ends, same_equal, same_self, quiet_marks, ends_marks}
 use Rattle.txn_holds.proofs.Snoc.{Adds, One, adds_acked, adds_holder, ends_acked, ends_holder, holder_acked}
-use Rattle.txn_holds.proofs.Allowed.{Fresh, lawful_one, lawful_more, plain_adds, up_to_adds, hold_adds, hold_unmarked, hold_free, hold_up_to_adds, hold_up_to_own, hold_up_to_fresh, hold_up_to_unmarked}
+use Rattle.txn_holds.proofs.Allowed.{Fresh, lawful_one, lawful_more, hold_adds, hold_unmarked, hold_free, hold_up_to_adds, hold_up_to_own, hold_up_to_fresh}
 use Rattle.txn_holds.proofs.Counts.{count_quiet, count_ends, places_same, places_more, places_ends, has-append}
 
 abbrev Taking : Type 0

@@ -1,8 +1,6 @@
 -- Rows of places, by the two numbers of a transaction.
-use Rattle.std.proofs.Common.{◌≡◌, ℕ, ◌&&◌, ◌==◌, eqb-true, Bool, true, false, cond, if◌then◌else◌, List, [], ◌++◌, Some, None, refl, sym, ap, ◌∙◌, true≢false}
-use Rattle.std.specs.Prelude.{Option, is_none, is_some, unwrap_or, Result, Ok, Err, IsOk, OnOk}
-use Rattle.std.specs.Borrow.{Bor}
-use Rattle.std.specs.Option.{option_copied}
+use Rattle.std.proofs.Common.{◌≡◌, ℕ, ◌&&◌, ◌==◌, eqb-true, Bool, true, false, cond, if◌then◌else◌, List, [], Some, None, refl, sym, ap, ◌∙◌, true≢false}
+use Rattle.std.specs.Prelude.{Option, is_some, unwrap_or, Result, Ok, Err, IsOk, OnOk}
 use Rattle.txn_base.specs.declared.txn.TxnId.{TxnId}
 use Rattle.txn_holds.specs.Rows.{key_of, same_key, row_in, row_of, row_ended}
 

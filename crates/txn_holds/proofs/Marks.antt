@@ -1,15 +1,14 @@
 -- How places are taken by a front and the spans past it.
-use Rattle.std.proofs.Common.{◌≡◌, ◌<◌, ◌≤◌, ◌^◌, ◌⊎◌, inl, inr, ⊎_elim, ℕ, suc, Some, None, List, Bool, true, false, if◌then◌else◌, arith, true≢false, refl, sym, ap, ◌∙◌}
-use Rattle.std.specs.Prelude.{Option, nat_le, is_some}
+use Rattle.std.proofs.Common.{◌≡◌, ◌<◌, ◌≤◌, ⊎_elim, ℕ, Some, None, List, Bool, true, false, if◌then◌else◌, arith, true≢false, refl, sym, ap, ◌∙◌}
+use Rattle.std.specs.Prelude.{Option, is_some}
 use Rattle.std.proofs.lemmas.Bool.{cases_lt}
 use Rattle.txn_base.specs.declared.txn.TxnId.{TxnId}
 use Rattle.txn_model.specs.Words.{has}
 use Rattle.txn_holds.specs.declared.spans.Span.{Span}
 use Rattle.txn_holds.specs.Spans.{span_taken, in_front, taken_in, up_to, place_past, set_each, put_each, AreSpans, IsPast, IsFirst}
 use Rattle.txn_holds.specs.Taken.{IsTaken}
-use Rattle.txn_holds.proofs.Covering.{none_some, some_one, Owner, Covers, covers_taken, taken_none, taken_same, spans_same, le_true, le_false, true_le}
+use Rattle.txn_holds.proofs.Covering.{none_some, Owner, covers_taken, taken_none, taken_same, spans_same, le_true, le_false, true_le}
 use Rattle.txn_holds.proofs.Puts.{tested, put_spans, put_taken, taken_spans, taken_taken}
-use Rattle.txn_holds.proofs.Fronts.{front_past, front_before}
 
 -- a place that isn't taken lies past the front, and no span has it
 pub free_place : (front : Option ℕ) (f : ℕ → Option Span) (q : ℕ) → taken_in front f q ≡ None → span_taken f q ≡ None

@@ -1,5 +1,5 @@
 -- In a lawful list one cumulative hold at most is pending.
-use Rattle.std.proofs.Common.{◌≡◌, ◌<◌, ◌≤◌, ◌⊎◌, inl, inr, ⊎_elim, ℕ, Bool, true, false, ◌&&◌, if◌then◌else◌, List, [], ◌∷◌, ◌++◌, Some, None, refl, sym, ap, ◌∙◌, subst, true≢false, arith}
+use Rattle.std.proofs.Common.{◌≡◌, ◌≤◌, ◌⊎◌, ⊎_elim, ℕ, Bool, true, false, ◌&&◌, if◌then◌else◌, List, [], ◌∷◌, ◌++◌, Some, None, refl, sym, ap, ◌∙◌, subst, arith}
 use Rattle.std.proofs.Common.{append_assoc, append-nil}
 use Rattle.std.specs.Prelude.{Option, is_none, nat_le}
 use Rattle.std.specs.Option.{option_or}
@@ -12,12 +12,12 @@ use Rattle.txn_base.specs.declared.entry.AckEntry.TheVariants as ack
 use Rattle.txn_model.specs.Words.{has, all_follow}
 use Rattle.txn_model.specs.Skeletons.{same_txn, ack_skeleton, ack_skeletons}
 use Rattle.txn_model.specs.Topic.{marks, marker_of}
-use Rattle.txn_model.specs.Ack.{is_acked, pending, holder_of, ack_allows, AckLawful}
+use Rattle.txn_model.specs.Ack.{pending, holder_of, ack_allows, AckLawful}
 use Rattle.txn_model.proofs.Laws.Lists.{first_stays, map_append, all_follow-append}
 use Rattle.txn_model.proofs.Laws.Tests.{and_l, and_r}
 use Rattle.txn_holds.specs.Holds.{without, IsLive}
-use Rattle.txn_holds.proofs.Covering.{le_true, le_false}
-use Rattle.txn_holds.proofs.Entries.{mark, Ends, same_equal, ends_marks}
+use Rattle.txn_holds.proofs.Covering.{le_true}
+use Rattle.txn_holds.proofs.Entries.{mark, Ends, ends_marks}
 use Rattle.txn_holds.proofs.Only.{Only}
 use Rattle.txn_holds.proofs.Snoc.{One, names, named, holder_named, ends_holder, adds_holder}
 use Rattle.txn_holds.proofs.Allowed.{Fresh, lawful_one, one_more, plain_adds, up_to_adds, hold_adds, hold_up_to_adds, hold_up_to_fresh, commit_ends, abort_ends}

@@ -1,5 +1,5 @@
 -- A list of entries that name one holder of a place.
-use Rattle.std.proofs.Common.{◌≡◌, ◌⊎◌, inl, inr, ⊎_elim, ℕ, Bool, true, false, ◌&&◌, ◌||◌, if◌then◌else◌, List, [], ◌∷◌, ◌++◌, Some, None, refl, sym, ap, ◌∙◌, true≢false}
+use Rattle.std.proofs.Common.{◌≡◌, ◌⊎◌, inl, inr, ⊎_elim, Bool, true, false, ◌||◌, if◌then◌else◌, List, [], ◌∷◌, ◌++◌, Some, None, refl, sym, ap, ◌∙◌}
 use Rattle.std.specs.Prelude.{Option}
 use Rattle.std.specs.Option.{option_or}
 use Rattle.std.specs.List.{list_any}
@@ -9,7 +9,6 @@ use Rattle.txn_model.specs.Words.{first_of}
 use Rattle.txn_model.specs.Skeletons.{same_txn}
 use Rattle.txn_model.specs.Ack.{is_held_by}
 use Rattle.txn_holds.specs.Holds.{without}
-use Rattle.txn_holds.proofs.Entries.{same_equal}
 
 -- Each of these entries names this holder, or none.
 abbrev pub Only : Option TxnId → (AckEntry → Option TxnId) → List AckEntry → Type 0

@@ -1,13 +1,13 @@
 -- Spans of one place that are put or taken out.
-use Rattle.std.proofs.Common.{◌≡◌, ◌<◌, ◌≤◌, ◌+◌, ◌==◌, ◌⊎◌, inl, inr, ⊎_elim, ℕ, Some, None, List, [], ◌∷◌, Bool, true, false, if◌then◌else◌, arith, eqb-true, true≢false, refl, sym, ap, subst, ◌∙◌}
+use Rattle.std.proofs.Common.{◌≡◌, ◌<◌, ◌≤◌, ◌==◌, ◌⊎◌, inl, inr, ⊎_elim, ℕ, Some, None, List, [], ◌∷◌, Bool, true, false, if◌then◌else◌, arith, eqb-true, true≢false, refl, sym, ap, subst, ◌∙◌}
 use Rattle.std.specs.Prelude.{Option, All}
 use Rattle.std.proofs.lemmas.List.Elements.{All-head, All-tail}
-use Rattle.std.proofs.lemmas.Bool.{cases_eq, cases_order, cases_lt}
+use Rattle.std.proofs.lemmas.Bool.{cases_lt}
 use Rattle.txn_base.specs.declared.txn.TxnId.{TxnId}
 use Rattle.txn_model.specs.Words.{has}
 use Rattle.txn_holds.specs.declared.spans.Span.{Span}
 use Rattle.txn_holds.specs.Spans.{Rises, single, span_taken, set_each, put_each, AreSpans}
-use Rattle.txn_holds.proofs.Covering.{some_one, none_some, Owner, Covers, covers_taken, taken_covers, taken_none, same_taken}
+use Rattle.txn_holds.proofs.Covering.{some_one, none_some, Owner, Covers, covers_taken, taken_none, same_taken}
 
 -- a test of a list is passed or fails
 pub tested : (ps : List ℕ) (q : ℕ) → (has ps q ≡ true) ⊎ (has ps q ≡ false)

@@ -1,22 +1,18 @@
 -- Which places are acknowledged, and whose they are, after one entry more.
-use Rattle.std.proofs.Common.{◌≡◌, ◌<◌, ◌≤◌, ◌⊎◌, inl, inr, ⊎_elim, ℕ, zero, suc, ◌+◌, ◌==◌, eqb-true, Bool, true, false, ◌&&◌, ◌||◌, if◌then◌else◌, List, [], ◌∷◌, ◌++◌, length, Some, None, refl, sym, ap, ◌∙◌, subst, true≢false, arith}
-use Rattle.std.specs.Prelude.{Option, is_none, nat_le, not}
+use Rattle.std.proofs.Common.{◌≡◌, ◌⊎◌, inl, inr, ⊎_elim, ℕ, Bool, true, false, ◌&&◌, ◌||◌, if◌then◌else◌, List, [], ◌∷◌, ◌++◌, Some, None, refl, sym, ap, ◌∙◌, subst, true≢false}
+use Rattle.std.specs.Prelude.{Option}
 use Rattle.std.specs.Option.{option_or}
-use Rattle.std.specs.List.{list_any, list_all}
+use Rattle.std.specs.List.{list_any}
 use Rattle.std.proofs.lemmas.List.Folds.{list_any-append}
 use Rattle.txn_base.specs.declared.txn.TxnId.{TxnId}
 use Rattle.txn_base.specs.declared.txn.Decision.{Decision}
-use Rattle.txn_base.specs.declared.txn.Decision.TheVariants.{Commit, Abort}
 use Rattle.txn_base.specs.declared.entry.AckEntry.{AckEntry}
-use Rattle.txn_base.specs.declared.entry.AckEntry.TheVariants as ack
-use Rattle.txn_model.specs.Words.{first_of, has, below, numbers_from, all_follow, IsLawfulBy}
-use Rattle.txn_model.specs.Skeletons.{same_txn, ack_skeleton, ack_skeletons}
-use Rattle.txn_model.specs.Topic.{part_allows}
-use Rattle.txn_model.specs.Ack.{covers, is_commit, counts, is_acked, pending, holder_of, is_free, is_held_by, is_foreign, places_allow, ack_allows, AckLawful}
-use Rattle.txn_model.proofs.Laws.Lists.{first_of-append, all_follow-append}
-use Rattle.txn_model.proofs.Laws.Tests.{and_l, and_r}
+use Rattle.txn_model.specs.Words.{first_of}
+use Rattle.txn_model.specs.Ack.{covers, is_commit, counts, is_acked, pending, holder_of, is_held_by}
+use Rattle.txn_model.proofs.Laws.Lists.{first_of-append}
+use Rattle.txn_model.proofs.Laws.Tests.{and_r}
 use Rattle.txn_holds.specs.Holds.{without}
-use Rattle.txn_holds.proofs.Entries.{mark, Quiet, Ends, same_equal, quiet_counts, quiet_pending, ends_counts, ends_pending}
+use Rattle.txn_holds.proofs.Entries.{Quiet, Ends, quiet_counts, quiet_pending, ends_counts, ends_pending}
 use Rattle.txn_holds.proofs.Only.{Only, any_same, first_same, only_same, only_none, only_push, only_without, first_without, any_held}
 
 -- The transaction without a marker whose hold of a place an entry is.

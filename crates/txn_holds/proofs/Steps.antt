@@ -1,6 +1,6 @@
 -- What is kept, by the code's steps.
-use Rattle.std.proofs.Common.{◌≡◌, ◌<◌, ◌≤◌, ◌^◌, ◌⊎◌, inl, inr, ⊎_elim, ℕ, suc, ◌+◌, ◌-◌, ◌==◌, Bool, true, false, cond, ◌&&◌, ◌||◌, if◌then◌else◌, List, [], ◌∷◌, ◌++◌, length, Some, None, refl, sym, ap, ◌∙◌, subst, true≢false, arith}
-use Rattle.std.specs.Prelude.{Option, is_none, nat_le, max, All, AllPairs}
+use Rattle.std.proofs.Common.{◌≡◌, ◌<◌, ◌≤◌, ◌⊎◌, inl, inr, ⊎_elim, ℕ, suc, ◌+◌, ◌-◌, Bool, true, false, cond, if◌then◌else◌, List, [], ◌∷◌, ◌++◌, length, Some, None, refl, sym, ap, ◌∙◌, subst, true≢false, arith}
+use Rattle.std.specs.Prelude.{Option, nat_le, AllPairs}
 use Rattle.std.proofs.lemmas.Bool.{cases_lt}
 use Rattle.std.proofs.lemmas.List.Kept.{AllPairs-from_increasing}
 use Rattle.txn_base.specs.declared.txn.TxnId.{TxnId}
@@ -10,19 +10,18 @@ use Rattle.txn_base.specs.Records.{IsAckEntry, IsTxnId}
 use Rattle.txn_base.specs.declared.entry.AckEntry.{AckEntry}
 use Rattle.txn_base.specs.declared.entry.AckEntry.TheVariants as ack
 use Rattle.txn_model.specs.Words.{has}
-use Rattle.txn_model.specs.Skeletons.{same_txn, ack_skeletons}
-use Rattle.txn_model.specs.Topic.{marker_of}
+use Rattle.txn_model.specs.Skeletons.{same_txn}
 use Rattle.txn_model.specs.Table.{ack_marker}
-use Rattle.txn_model.specs.Ack.{is_commit, is_acked, holder_of, held_by, held_count, is_held_by, ack_allows, AckLawful}
+use Rattle.txn_model.specs.Ack.{is_commit, is_acked, holder_of, is_held_by, ack_allows}
 use Rattle.txn_holds.specs.Spans.{Rises, set_each, up_to}
 use Rattle.txn_holds.specs.Rows.{key_of, same_key, row_grown, row_ended}
-use Rattle.txn_holds.specs.Holds.{held_places, without, is_ack, is_single, holder_up_to, holder_at, raised, left_by, own_up, left_up, after_up, IsLive, IsHolds}
+use Rattle.txn_holds.specs.Holds.{without, is_ack, is_single, holder_up_to, holder_at, raised, left_by, own_up, left_up, after_up, IsHolds}
 use Rattle.txn_holds.proofs.Covering.{le_true, le_false, true_le}
 use Rattle.txn_holds.proofs.Puts.{tested}
 use Rattle.txn_holds.proofs.Entries.{Ends, same_equal, same_self}
 use Rattle.txn_holds.proofs.Allowed.{plain_adds, up_to_adds, plain_free, hold_free, commit_ends, abort_ends}
 use Rattle.txn_holds.proofs.Counts.{count_ends}
-use Rattle.txn_holds.proofs.Kept.{single_held, free_taken, held_unacked, plain_kept, hold_kept, one_up, hold_up_to_kept, ended_kept}
+use Rattle.txn_holds.proofs.Kept.{single_held, free_taken, plain_kept, hold_kept, one_up, hold_up_to_kept, ended_kept}
 
 abbrev Taking : Type 0
 Taking = ℕ → Option (Option TxnId)

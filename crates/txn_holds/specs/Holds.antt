@@ -1,5 +1,5 @@
 -- What is kept of a subscription's entries.
-use Rattle.std.specs.Prelude.{◌≡◌, ℕ, ◌≤◌, ◌<◌, ◌^◌, ◌∷◌, ◌++◌, nat_le, max, Bool, true, false, if◌then◌else◌, List, [], length, All, Option, Some, None, is_none}
+use Rattle.std.specs.Prelude.{◌≡◌, ℕ, ◌≤◌, ◌<◌, ◌^◌, ◌∷◌, ◌++◌, nat_le, max, Bool, true, false, if◌then◌else◌, List, [], All, Option, Some, None, is_none}
 use Rattle.std.specs.List.{flat_map}
 use Rattle.txn_base.specs.declared.txn.TxnId.{TxnId}
 use Rattle.txn_base.specs.declared.txn.Decision.{Decision}

@@ -95,8 +95,8 @@ abbrev pub AreSet : {V : Type 0} → List ℕ → V → (ℕ → V) → (ℕ →
 AreSet places v f n = (q : ℕ) → n q ≡ set_each f places v q
 
 -- Spans of these places alone were put.
-abbrev pub IsPut : Option TxnId → List ℕ → (ℕ → Option Span) → (ℕ → Option Span) → Type 0
-IsPut owner places f n = (q : ℕ) → n q ≡ put_each owner places f q
+abbrev pub Puts : Option TxnId → List ℕ → (ℕ → Option Span) → (ℕ → Option Span) → Type 0
+Puts owner places f n = (q : ℕ) → n q ≡ put_each owner places f q
 
 -- The pair is a span and the place where it begins; the place is the last up to this one where a span begins.
 abbrev pub Begins : (ℕ → Option Span) → ℕ × Span → Type 0

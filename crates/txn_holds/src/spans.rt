@@ -5,7 +5,7 @@ ghost use Rattle.std.specs.BTreeMap.{get};
 ghost use Rattle.txn_model.specs.Words.{has};
 ghost use Rattle.txn_holds.specs.Spans.{single, with_last, acked_span, span_taken, in_front, place_past};
 ghost use Rattle.txn_holds.specs.Spans.{AreSpans, AreTaken, AcksAll, AcksOne, AcksUpTo, AreSet, Begins, GoesOn};
-ghost use Rattle.txn_holds.specs.Spans.{IsChanged, IsFirst, IsLast, IsPast, IsPut, IsReach, Rises, Same, SameBut, SamePast, TakesSame};
+ghost use Rattle.txn_holds.specs.Spans.{IsChanged, IsFirst, IsLast, IsPast, IsReach, Puts, Rises, Same, SameBut, SamePast, TakesSame};
 
 use std::alloc::AllocError;
 use std::collections::BTreeMap;
@@ -90,18 +90,18 @@ fn put(spans: &mut BTreeMap<u64, Span>, place: u64, owner: Option<TxnId>) -> Res
 pub fn put_all(
     spans: &mut BTreeMap<u64, Span>,
     places: &[u64],
-    owner: Option<TxnId>,
+    who: Option<TxnId>,
 ) -> Result<(), AllocError>
     requires order { Rises places.now }
     requires absent { (q : ℕ) → has places.now q ≡ true → get nat_cmp spans.old q ≡ None }
-    ensures ok { OnOk result (IsPut owner places.now (get nat_cmp spans.old) (get nat_cmp spans.new)) }
+    ensures ok { OnOk result (Puts who places.now (get nat_cmp spans.old) (get nat_cmp spans.new)) }
     ensures err { OnErr result (Same (get nat_cmp spans.old) (get nat_cmp spans.new)) }
 {
     let Some((place, rest)) = places.split_first() else {
         return Ok(());
     };
-    put(spans, *place, owner)?;
-    let rest = put_all(spans, rest, owner);
+    put(spans, *place, who)?;
+    let rest = put_all(spans, rest, who);
     if rest.is_err() {
         take_out(spans, *place);
     }

@@ -1,9 +1,7 @@
-use Rattle.std.proofs.Common.{◌≡◌, ◌≤◌, ◌<◌, ℕ, None, Some, refl, sym, ap, ◌∙◌, arith, rules}
-use Rattle.std.specs.Prelude.{nat_le}
+use Rattle.std.proofs.Common.{sym, ap, ◌∙◌, rules}
 use Rattle.std.specs.Ordering.{nat_cmp}
 use Rattle.std.specs.BTreeMap.{get}
 use Rattle.txn_model.specs.Words.{when}
-use Rattle.txn_holds.specs.declared.spans.Span.{Span}
 use Rattle.txn_holds.proofs.Covering.{none_some, le_true, le_false, taken_last, taken_none}
 use Rattle.txn_holds.proofs.spans.taken_at.Goals as goal
 

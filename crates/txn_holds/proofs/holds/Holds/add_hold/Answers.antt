@@ -1,4 +1,4 @@
-use Rattle.std.proofs.Common.{ap, ◌++◌, ◌∷◌, [], refl, rules, arith, ◌≡◌, ◌+◌, length}
+use Rattle.std.proofs.Common.{ap, refl, rules, ◌≡◌, ◌+◌, length}
 use Rattle.indexmap.specs.IndexMap.{get}
 use Rattle.txn_holds.specs.Rows.{same_key, row_of}
 use Rattle.txn_holds.specs.Taken.{how_taken}

@@ -1,4 +1,4 @@
-use Rattle.std.proofs.Common.{◌≡◌, ◌∙◌, ◌≤◌, ap, sym, refl, arith, length, subst}
+use Rattle.std.proofs.Common.{◌≡◌, ◌≤◌, ap, refl, arith, length}
 use Rattle.indexmap.specs.IndexMap.{spare}
 use Rattle.indexmap.specs.IndexMap.{get}
 use Rattle.txn_holds.specs.Rows.{same_key, row_of}

@@ -1,7 +1,7 @@
-use Rattle.std.proofs.Common.{◌≡◌, ◌∙◌, ap, None, Some, true, if◌then◌else◌}
+use Rattle.std.proofs.Common.{◌∙◌, ap, None, Some, if◌then◌else◌}
 use Rattle.std.specs.Ordering.{nat_cmp}
 use Rattle.std.specs.BTreeMap.{get}
-use Rattle.txn_holds.specs.Spans.{set_each, up_to}
+use Rattle.txn_holds.specs.Spans.{set_each}
 use Rattle.txn_holds.specs.Taken.{how_taken}
 use Rattle.txn_holds.specs.Spans.{span_taken, taken_in}
 use Rattle.txn_holds.proofs.Marks.{free_place, none_begins, held_some, put_apart, put_spanned, put_past, put_marks, ack_past, ack_marks, free_out, set_twice, same_is_taken, same_marks}

@@ -1,7 +1,7 @@
-use Rattle.std.proofs.Common.{◌≡◌, ◌∙◌, sym, ap, None, Some}
+use Rattle.std.proofs.Common.{◌∙◌, sym, ap}
 use Rattle.std.specs.Ordering.{nat_cmp}
 use Rattle.std.specs.BTreeMap.{get}
-use Rattle.txn_holds.specs.Spans.{set_each, up_to}
+use Rattle.txn_holds.specs.Spans.{up_to}
 use Rattle.txn_holds.specs.Taken.{how_taken}
 use Rattle.txn_holds.proofs.Marks.{up_to_past}
 use Rattle.txn_holds.proofs.taken.Taken.acknowledge_up_to.Goals as goal

@@ -1,7 +1,7 @@
-use Rattle.std.proofs.Common.{◌≡◌, ◌∙◌, ap, None, Some}
+use Rattle.std.proofs.Common.{◌∙◌, ap, None, Some}
 use Rattle.std.specs.Ordering.{nat_cmp}
 use Rattle.std.specs.BTreeMap.{get}
-use Rattle.txn_holds.specs.Spans.{set_each, up_to}
+use Rattle.txn_holds.specs.Spans.{set_each}
 use Rattle.txn_holds.specs.Taken.{how_taken}
 use Rattle.txn_holds.proofs.Marks.{held_place, held_some, spanned_out, ack_past, ack_marks}
 use Rattle.txn_holds.proofs.taken.Taken.commit.Goals as goal

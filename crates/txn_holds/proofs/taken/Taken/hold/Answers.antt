@@ -1,7 +1,7 @@
-use Rattle.std.proofs.Common.{◌≡◌, ◌∙◌, ap, None, Some}
+use Rattle.std.proofs.Common.{◌∙◌, ap, Some}
 use Rattle.std.specs.Ordering.{nat_cmp}
 use Rattle.std.specs.BTreeMap.{get}
-use Rattle.txn_holds.specs.Spans.{set_each, up_to}
+use Rattle.txn_holds.specs.Spans.{set_each}
 use Rattle.txn_holds.specs.Taken.{how_taken}
 use Rattle.txn_holds.proofs.Marks.{free_place, none_begins, same_is_taken, same_marks, put_apart, put_past, put_first, put_marks, held_other}
 use Rattle.txn_holds.proofs.taken.Taken.hold.Goals as goal

@@ -1,9 +1,7 @@
-use Rattle.std.proofs.Common.{◌≡◌, ◌∙◌, ap, None, Some, refl, rules}
+use Rattle.std.proofs.Common.{ap}
 use Rattle.std.specs.Ordering.{nat_cmp}
 use Rattle.std.specs.BTreeMap.{get, is_at}
 use Rattle.std.specs.Map.{lookup}
-use Rattle.txn_holds.specs.Spans.{set_each, up_to}
-use Rattle.txn_holds.specs.Taken.{how_taken}
 use Rattle.txn_holds.proofs.Marks.{none_taken}
 use Rattle.txn_holds.proofs.taken.Taken.new.Goals as goal
 
