@@ -36,6 +36,12 @@ pub record HoldsView : Type 0 where
   pub entries : List AckEntry
   pub ends : ℕ
 
+-- How many markers an entry is.
+abbrev pub ends_of : AckEntry → ℕ
+ends_of (ack.Commit x) = 1
+ends_of (ack.Abort x) = 1
+ends_of _ = 0
+
 -- By how a place is taken: it is acknowledged; x holds it by itself.
 abbrev pub is_ack : Option (Option TxnId) → Bool
 is_ack (Some None) = true

@@ -11,7 +11,7 @@ ghost use Rattle.txn_holds.specs.Spans.{AllAre};
 ghost use Rattle.txn_holds.specs.Taken.{how_taken};
 ghost use Rattle.txn_holds.specs.Rows.{IsEnded, same_key, row_of};
 ghost use Rattle.txn_holds.specs.Holds.{AreAllAcked, IsFirstUnacked, IsMarked, IsRowEnded, IsUpEnded};
-ghost use Rattle.txn_holds.specs.Holds.{is_ack, holder_up_to, raised, own_up, left_up};
+ghost use Rattle.txn_holds.specs.Holds.{ends_of, is_ack, holder_up_to, raised, own_up, left_up};
 
 use crate::entry::{is_same, marker, with_entry};
 use crate::rows::{Row, add_places, take_row};
@@ -136,7 +136,7 @@ impl Holds {
         requires allowed { ack_allows self.old.entries entry.now ≡ true }
         ensures ok { OnOk result (self.new.entries ≡ self.old.entries ++ entry.now ∷ []) }
         ensures err { OnErr result (self.new.entries ≡ self.old.entries) }
-        ensures ends { self.old.ends ≤ self.new.ends + 1 }
+        ensures ends { self.old.ends ≤ self.new.ends + ends_of entry.now }
     {
         match entry {
             AckEntry::Plain { places } => self.add_plain(entry, places.as_slice()),
@@ -188,6 +188,7 @@ impl Holds {
         ensures err { OnErr result (self.new.entries ≡ self.old.entries) }
         ensures ends { self.new.ends ≡ self.old.ends }
     {
+        // So many places as would not be counted have no room in memory.
         let Some(held) = self.held.checked_add(places.len() as u64) else {
             return Err(AllocError);
         };
