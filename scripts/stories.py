@@ -257,6 +257,8 @@ def tell_all(path, counts, reasons):
         stories = story_text.stories_of(path)
     except story_text.Unreadable as fault:
         return [f"{file}:{fault.number}: {fault}"]
+    if not stories:
+        lines.append(f"{file}: there is no story in it")
     for story in stories:
         counts["stories"] += 1
         telling, is_told = Telling(counts), True
@@ -301,7 +303,7 @@ def main():
     print(f"stories: {counts['stories']} stories in {len(paths)} files, {said}, with {counts['crashes']} crashes behind "
           f"{counts['failed calls']} calls that fail in turn, and {counts['wrong stories']} wrong stories found wrong; "
           f"{counts['by rule alone']} runs by rule alone; {unanswered} not answered here{': ' + left if left else ''}")
-    sys.exit(1 if wrong or not counts["stories"] else 0)
+    sys.exit(1 if wrong or unanswered or not counts["stories"] else 0)
 
 
 if __name__ == "__main__":
